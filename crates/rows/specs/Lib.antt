@@ -1,0 +1,6 @@
+pub mod Literals
+pub mod Kinds
+pub mod Truth
+pub mod Stops
+pub mod Judging
+pub mod Buffers

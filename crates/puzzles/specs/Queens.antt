@@ -1,36 +1,22 @@
 -- Queens: one in each row and column, at most one on each diagonal. A place is a board row, a value a column.
-use mathlib.Core.Path.{_≡_}
-use mathlib.Core.List.{List, [], _∷_, _++_, map}
-use mathlib.Core.Bool.{Bool, true, false, not, _&&_, _||_}
-use Prim.Native.Nat.{ℕ, zero, suc, _+_, _-_, _*_}
+use mathlib.Core.List.{List, _++_, map}
+use mathlib.Core.Bool.{Bool, not, _&&_, _||_}
+use Prim.Native.Nat.{ℕ, _+_, _-_, _*_}
 use lib.Dec.{eqb, ltb, leb}
 use lib.ListN.{length, getD}
 use Rattle.std.specs.Iters.{counting}
 use Rattle.std.specs.shelf.Lists.{kept-by, joined}
-use Rattle.rows.specs.Truth.{trues}
 use Rattle.puzzles.specs.declared.givens.Given.{Given}
 use Rattle.puzzles.specs.Lines.{Cell, Line, at, plain, slacked, place-lines}
 use Rattle.puzzles.specs.Boards.{Board}
+use Rattle.puzzles.specs.Words.{every, times}
+use Rattle.puzzles.specs.Givens.{most-entries, all-given, given-line, all-fit}
 
 -- the subject's own words
-
--- a test passes at every number below n
-abbrev pub every : ℕ → (ℕ → Bool) → Bool
-every zero test = true
-every (suc n) test = test n && every n test
-
--- how often a value stands in a list
-abbrev pub times : ℕ → List ℕ → ℕ
-times v a = trues (map (eqb v) a)
 
 -- the queens of rows i and j stand on one diagonal
 abbrev pub aligned : List ℕ → ℕ → ℕ → Bool
 aligned a i j = eqb (getD a i 0 + j) (getD a j 0 + i) || eqb (getD a i 0 + i) (getD a j 0 + j)
-
--- every given stands in a list of values
-abbrev pub all-given : List Given → List ℕ → Bool
-all-given [] a = true
-all-given (g ∷ gs) a = eqb (getD a (g .place) 0) (g .value) && all-given gs a
 
 -- a queen in each row, on the board; one in each column; no two on a diagonal; the givens held
 abbrev pub queens-answer : ℕ → List Given → List ℕ → Bool
@@ -58,9 +44,6 @@ falling n d = slacked (kept-by (λ c. eqb (c .value + n) (c .place + d)) (all-ce
 abbrev pub rising : ℕ → ℕ → Line
 rising n d = slacked (kept-by (λ c. eqb (c .place + c .value) d) (all-cells n))
 
-abbrev pub given-line : Given → Line
-given-line g = plain (at (g .place) (g .value) ∷ [])
-
 -- places, columns, the diagonals of two cells or more of either way, and the givens
 abbrev pub queens-lines : ℕ → List Given → List Line
 queens-lines n gs =
@@ -73,11 +56,10 @@ queens-lines n gs =
 abbrev pub queens : ℕ → List Given → Board
 queens n gs = record { size = n; places = n; lines = queens-lines n gs; answer = queens-answer n gs }
 
--- the puzzles that can be made: size 1 to 12, at most 256 givens, each on the board
+-- the largest board
+abbrev pub largest : ℕ
+largest = 12
 
-abbrev pub givens-fit : ℕ → List Given → Bool
-givens-fit n [] = true
-givens-fit n (g ∷ gs) = (ltb (g .place) n && ltb (g .value) n) && givens-fit n gs
-
+-- the puzzles that can be made: no larger, with no more than the most givens, each on the board
 abbrev pub makeable : ℕ → List Given → Bool
-makeable n gs = leb 1 n && (leb n 12 && (leb (length gs) 256 && givens-fit n gs))
+makeable n gs = leb 1 n && (leb n largest && (leb (length gs) most-entries && all-fit n n gs))

@@ -1,4 +1,15 @@
 // Puzzles as rows: what a puzzle is, the calls that are written once for all of them, and the puzzles themselves.
+mod boards;
+mod calls;
+mod checks;
+mod filling;
 mod givens;
+mod queens;
 
+pub use boards::Puzzle;
+pub use calls::bill;
+pub use calls::first_false;
+pub use givens::ENTRIES;
 pub use givens::Given;
+pub use queens::Queens;
+pub use queens::QueensPuzzle;

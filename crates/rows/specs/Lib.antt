@@ -4,3 +4,4 @@ pub mod Truth
 pub mod Stops
 pub mod Judging
 pub mod Buffers
+pub mod Bills

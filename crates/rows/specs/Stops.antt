@@ -1,8 +1,14 @@
 -- The numbered refusals: each stop's number and name, and where a fault's place comes from.
+use mathlib.Core.Path.{_≡_}
 use mathlib.Core.List.{List, _++_}
+use mathlib.Core.Bool.{Bool, cond}
 use Prim.Native.Nat.{ℕ}
 use lib.Chars.{codes}
 use Rattle.std.specs.Written.{decimal}
+use Rattle.std.specs.declared.option.Option.{Option}
+use Rattle.std.specs.declared.option.Option.the-variants.{Some, None}
+use Rattle.std.specs.declared.result.Result.{Result}
+use Rattle.std.specs.declared.result.Result.the-variants.{Ok, Err}
 use Rattle.rows.specs.declared.stops.Stop.{Stop}
 use Rattle.rows.specs.declared.stops.Stop.the-variants.{Size, Count, Length, Entry, Wrong, Twice, Joint, Big, Row, Literal, Bill, Owed, Small, Make}
 use Rattle.rows.specs.declared.stops.Fault.{Fault}
@@ -62,6 +68,21 @@ fault-place f = place-at (f .depth) (f .stop)
 -- a fault of whoever was called
 abbrev pub here : Stop → Fault
 here s = record { stop = s; depth = 0 }
+
+-- a stop where a test says so
+abbrev pub stop-if : Bool → Stop → Option Fault
+stop-if b s = cond b (Some (here s)) None
+
+-- the first stop of two checks in order
+infixr 4 _then-if_
+abbrev pub _then-if_ : Option Fault → Option Fault → Option Fault
+None then-if later = later
+(Some f) then-if later = Some f
+
+-- a call is refused exactly where it meets a stop, and by that stop: then `left` holds, and otherwise `done`
+abbrev pub Unless : Option Fault → Type 0 → Type 0 → Result (Unit {0}) Fault → Type 0
+Unless stop left done (Ok x) = (stop ≡ None) × done
+Unless stop left done (Err f) = (stop ≡ Some f) × left
 
 -- how a fault is printed, as "stop 8 BIG, place 3, depth 3"
 abbrev pub fault-text : Fault → List ℕ

@@ -32,6 +32,11 @@ abbrev pub all-hold : Kind → (ℕ → Bool) → List (List ℕ) → Bool
 all-hold kind v [] = true
 all-hold kind v (row ∷ rows) = holds kind v row && all-hold kind v rows
 
+-- the index of the first row that is not true, where the first row has index i
+abbrev pub first-false : Kind → (ℕ → Bool) → ℕ → List (List ℕ) → Option ℕ
+first-false kind v i [] = None
+first-false kind v i (row ∷ rows) = cond (holds kind v row) (first-false kind v (i + 1) rows) (Some i)
+
 -- the position of the first literal of variable n or more, in a row whose first position is i
 abbrev pub first-wide : ℕ → ℕ → List ℕ → Option ℕ
 first-wide n i [] = None

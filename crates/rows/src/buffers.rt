@@ -1,5 +1,6 @@
 // A buffer for one row.
 ghost use Prim.Native.Nat.{_≤_};
+ghost use Rattle.rows.specs.Kinds.{longest};
 use crate::kinds::LONGEST;
 use crate::literals::Literal;
 
@@ -10,5 +11,5 @@ mod filling;
 pub struct Row {
     literals: [Literal; LONGEST],
     len: usize,
-    ghost short: { len ≤ 16 },
+    ghost short: { len ≤ longest },
 }

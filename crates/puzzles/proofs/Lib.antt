@@ -1,0 +1,12 @@
+pub mod Blocks
+pub mod Slacks
+pub mod Law
+pub mod Narrow
+pub mod Failing
+pub mod Reading
+pub mod Every
+pub mod Hits
+pub mod Insides
+pub mod GivenLines
+pub mod DiagonalCells
+pub mod QueensLined

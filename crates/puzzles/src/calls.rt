@@ -1,0 +1,48 @@
+// The calls that are written once for every puzzle.
+ghost use mathlib.Core.Path.{_≡_};
+ghost use mathlib.Core.Bool.{not};
+ghost use mathlib.Core.List.{_++_};
+ghost use Prim.Native.Nat.{_*_, _≤_};
+ghost use lib.ListN.{drop, length};
+ghost use Rattle.puzzles.specs.Boards.{encode as encoding, decode as decoding, rows as board-rows, vars as board-vars};
+ghost use Rattle.puzzles.specs.Calls.{Decoded, Encoded, decode-stop, encode-stop, failing, fill-stop};
+ghost use Rattle.rows.specs.Bills.{bill-of};
+ghost use Rattle.rows.specs.Stops.{Unless};
+use crate::boards::Puzzle;
+use rows::Bill;
+use rows::Fault;
+use rows::Kind;
+use rows::Stop;
+use rows::judge;
+
+// The bill of a puzzle: how many of its rows have each length.
+pub fn bill<P: Puzzle>(puzzle: &P) -> Bill
+    ensures { λ r. ⌜ r .counts ≡ bill-of (board-rows (P·Puzzle .board (now (puzzle .entry)))) ⌝ }
+{
+    let mut bill = Bill::empty();
+    for i in 0..puzzle.rows() {
+        if let Some(row) = puzzle.row(i) {
+            bill.counts[row.literals().len()] += 1;
+        }
+    }
+    bill
+}
+
+// The index of the first row that is not true, or none where all are.
+// Stop 3 where there is not a value for each variable.
+pub fn first_false<P: Puzzle>(puzzle: &P, values: &[bool]) -> Result<Option<u32>, Fault>
+    ensures { λ r. ⌜ r ≡ failing (P·Puzzle .board (now (puzzle .entry))) (now (values .entry)) ⌝ }
+{
+    if values.len() != puzzle.vars() as usize {
+        return Err(Fault::here(Stop::Length(values.len() as u64)));
+    }
+    for i in 0..puzzle.rows() {
+        if let Some(row) = puzzle.row(i) {
+            let holds = judge(Kind::Cover, values, row.literals())?;
+            if !holds {
+                return Ok(Some(i));
+            }
+        }
+    }
+    Ok(None)
+}

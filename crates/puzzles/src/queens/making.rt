@@ -1,0 +1,39 @@
+// Making a queens puzzle.
+ghost use mathlib.Core.List.{[]};
+ghost use mathlib.Core.Path.{_≡_};
+ghost use Rattle.puzzles.specs.Making.{Made, queens-stop};
+ghost use Rattle.rows.specs.Stops.{Unless};
+use crate::givens::ENTRIES;
+use crate::givens::Given;
+use crate::givens::checking::first_outside;
+use crate::queens::LARGEST;
+use crate::queens::Queens;
+use rows::Fault;
+use rows::Stop;
+
+impl<'a> Queens<'a> {
+    // The smallest board, with no givens.
+    pub fn new() -> Queens<'a>
+        ensures { λ r. ⌜ Made r 1 [] ⌝ }
+    {
+        Queens { size: 1, givens: &[] }
+    }
+
+    // Sets the size and the givens, which are lent, or refuses and leaves the puzzle as it was:
+    // stop 1 for a size that is not 1 to 12, stop 2 for more than 256 givens, stop 4 for the first given off the board.
+    pub fn make(&mut self, size: usize, givens: &'a [Given]) -> Result<(), Fault>
+        ensures { λ r. ⌜ Unless (queens-stop size (now (givens .entry))) (Made (now (self .exit)) (now (self .entry) .size) (now (now (self .entry) .givens))) (Made (now (self .exit)) size (now (givens .entry))) r ⌝ }
+    {
+        if size < 1 || size > LARGEST {
+            return Err(Fault::here(Stop::Size(size as u64)));
+        }
+        if givens.len() > ENTRIES {
+            return Err(Fault::here(Stop::Count(givens.len() as u64)));
+        }
+        if let Some(i) = first_outside(size, size, givens) {
+            return Err(Fault::here(Stop::Entry(i as u64)));
+        }
+        *self = Queens { size: size as u8, givens };
+        Ok(())
+    }
+}

@@ -1,5 +1,5 @@
 -- Tests that pass at every number below another, and lists of lines that are all met.
-use mathlib.Core.Path.{_≡_, refl}
+use mathlib.Core.Path.{_≡_, refl, sym}
 use mathlib.Core.List.{List, [], _∷_, _++_, map}
 use mathlib.Core.Bool.{Bool, true, false, _&&_}
 use mathlib.Core.Logic.{⊎-elim}
@@ -7,7 +7,7 @@ use Prim.Native.Nat.{ℕ, zero, suc, _+_, _≤_, _<_}
 use native.Mathlib.Omega.{arith}
 use Rattle.std.specs.Iters.{counting}
 use Rattle.std.specs.Orderings.{Decides}
-use Rattle.std.proofs.shelf.Tests.{cases-lt, and-parts, and-from}
+use Rattle.std.proofs.shelf.Tests.{cases-lt, cases-bool, both-ways, and-parts, and-from}
 use Rattle.std.proofs.shelf.Ways.{tells, same-from-decides, decides-below-and}
 use Rattle.puzzles.specs.Lines.{Line, met, all-met}
 use Rattle.puzzles.specs.Words.{every}
@@ -32,6 +32,22 @@ every-intro n t h = decides-every n t .1 h
 -- and to each
 pub every-elim : (n : ℕ) (t : ℕ → Bool) → every n t ≡ true → (k : ℕ) → k < n → t k ≡ true
 every-elim n t e = decides-every n t .0 e
+
+-- one more number passes
+pub every-more : (n : ℕ) (t : ℕ → Bool) → every n t ≡ true → t n ≡ true → every (n + 1) t ≡ true
+every-more n t e f = let s : n + 1 ≡ suc n = omega arith in rw s (and-from (t n) (every n t) f e)
+
+-- where all below i pass, all below a smaller n do
+pub every-all : (n i : ℕ) (t : ℕ → Bool) → n ≤ i → every i t ≡ true → true ≡ every n t
+every-all n i t h e = sym (every-intro n t (λ k l. every-elim i t e k (omega arith)))
+
+-- one number below n that fails is enough
+pub every-fails : (n k : ℕ) (t : ℕ → Bool) → k < n → t k ≡ false → false ≡ every n t
+every-fails n k t h e =
+    ⊎-elim
+    (λ (f : every n t ≡ true). absurd (both-ways (t k) e (every-elim n t f k h)))
+    (λ (f : every n t ≡ false). sym f)
+    (cases-bool (every n t))
 
 -- from any two numbers below n
 pub every-two-intro : (n : ℕ) (t : ℕ → ℕ → Bool) → ((i j : ℕ) → i < j → j < n → t i j ≡ true) → every n (λ j. every j (λ i. t i j)) ≡ true

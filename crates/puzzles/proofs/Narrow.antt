@@ -16,7 +16,7 @@ use Rattle.puzzles.specs.Lines.{Cell, Line, variable-of, row-of, rows-from, sl
 use Rattle.puzzles.specs.Boards.{Board, Lined, cells, vars, rows}
 
 -- where each variable is below n, none is too wide
-not-wide : (n i : ℕ) (row : List ℕ) → All (λ l. l / 2 < n) row → first-wide n i row ≡ None
+pub not-wide : (n i : ℕ) (row : List ℕ) → All (λ l. l / 2 < n) row → first-wide n i row ≡ None
 not-wide n i [] k = refl
 not-wide n i (l ∷ row) k = let h = k .0 in let e = not-wide n (i + 1) row (k .1) in grind (arith, tells)
 

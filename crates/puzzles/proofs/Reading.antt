@@ -21,9 +21,9 @@ use Rattle.rows.proofs.Tallies.{bill-few, bill-push}
 -- what stands at an index
 nth-some : {X : Type 0} (xs : List X) (i : ℕ) (x d : X) → Some x ≡ nth xs i → (i < length xs) × (x ≡ getD xs i d)
 nth-some xs i x d e = ⊎-elim {C = (i < length xs) × (x ≡ getD xs i d)}
-  (λ (h : i < length xs). let f = nth-getD xs i d h in (h, cc))
-  (λ (h : length xs ≤ i). let f = nth-past xs i h in let z : _≡_ {A = ℕ} 0 1 = cc in absurd (omega arith))
-  (cases-lt i (length xs))
+    (λ (h : i < length xs). let f = nth-getD xs i d h in (h, cc))
+    (λ (h : length xs ≤ i). let f = nth-past xs i h in let z : _≡_ {A = ℕ} 0 1 = cc in absurd (omega arith))
+    (cases-lt i (length xs))
 
 -- a row that is read is the one of its index
 pub read-some : (rows : List (List ℕ)) (i : ℕ) (o : Option Row) (row : Row) → mapped held o ≡ nth rows i → o ≡ Some row → (i < length rows) × (held row ≡ getD rows i [])

@@ -14,6 +14,11 @@ pub trait Puzzle {
     // What the puzzle is.
     ghost board: { Self → Board };
 
+    // What a puzzle shows of its own: its answers are the lists of values that meet its lines. From that it follows, once for
+    // all puzzles, that answers and solutions match one to one. Nothing is run: a call brings the fact into the caller's proof.
+    fn lined(&self)
+        ensures { λ _. ⌜ Lined (board (now (self .entry))) ⌝ };
+
     // How many values there are.
     fn size(&self) -> u8
         ensures { λ r. ⌜ r ≡ board (now (self .entry)) .size ⌝ };
@@ -22,11 +27,9 @@ pub trait Puzzle {
     fn places(&self) -> usize
         ensures { λ r. ⌜ r ≡ board (now (self .entry)) .places ⌝ };
 
-    // How many variables the rows are over. Here a puzzle also shows that its answers are the lists of values that meet its lines:
-    // from that it follows, for every puzzle, that answers and solutions match one to one.
+    // How many variables the rows are over.
     fn vars(&self) -> u32
-        ensures value { λ r. ⌜ r ≡ board-vars (board (now (self .entry))) ⌝ }
-        ensures lined { λ r. ⌜ Lined (board (now (self .entry))) ⌝ };
+        ensures { λ r. ⌜ r ≡ board-vars (board (now (self .entry))) ⌝ };
 
     // How many rows there are.
     fn rows(&self) -> u32

@@ -1,13 +1,8 @@
 // The calls that are written once for every puzzle.
 ghost use mathlib.Core.Path.{_≡_};
-ghost use mathlib.Core.Bool.{not};
-ghost use mathlib.Core.List.{_++_};
-ghost use Prim.Native.Nat.{_*_, _≤_};
-ghost use lib.ListN.{drop, length};
-ghost use Rattle.puzzles.specs.Boards.{encode as encoding, decode as decoding, rows as board-rows, vars as board-vars};
-ghost use Rattle.puzzles.specs.Calls.{Decoded, Encoded, decode-stop, encode-stop, failing, fill-stop};
+ghost use Rattle.puzzles.specs.Boards.{rows as board-rows};
+ghost use Rattle.puzzles.specs.Calls.{failing};
 ghost use Rattle.rows.specs.Bills.{bill-of};
-ghost use Rattle.rows.specs.Stops.{Unless};
 use crate::boards::Puzzle;
 use rows::Bill;
 use rows::Fault;
@@ -33,6 +28,7 @@ pub fn bill<P: Puzzle>(puzzle: &P) -> Bill
 pub fn first_false<P: Puzzle>(puzzle: &P, values: &[bool]) -> Result<Option<u32>, Fault>
     ensures { λ r. ⌜ r ≡ failing (P·Puzzle .board (now (puzzle .entry))) (now (values .entry)) ⌝ }
 {
+    puzzle.lined();
     if values.len() != puzzle.vars() as usize {
         return Err(Fault::here(Stop::Length(values.len() as u64)));
     }

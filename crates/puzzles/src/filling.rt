@@ -20,7 +20,7 @@ pub(crate) fn push_variable(row: &mut Row, variable: u32)
 
 // The row of `count` variables from `start` on, each `step` after the one before.
 pub(crate) fn run(start: u32, step: u32, count: u32) -> Row
-    requires { ⌜ count ≤ longest ⌝ ∗ ⌜ start + count * step ≤ within ⌝ }
+    requires { ⌜ count ≤ longest ⌝ ∗ ⌜ start + count * step < within ⌝ }
     ensures { λ r. ⌜ held r ≡ map (λ k. 2 * (start + k * step)) (counting 0 count) ⌝ }
 {
     let mut row = Row::new();

@@ -2,6 +2,7 @@
 mod boards;
 mod calls;
 mod checks;
+mod coding;
 mod filling;
 mod givens;
 mod queens;
@@ -9,6 +10,10 @@ mod queens;
 pub use boards::Puzzle;
 pub use calls::bill;
 pub use calls::first_false;
+pub use coding::decode;
+pub use coding::encode;
+pub use coding::faithful;
+pub use coding::fill;
 pub use givens::ENTRIES;
 pub use givens::Given;
 pub use queens::Queens;

@@ -57,7 +57,7 @@ bill-push rows row h =
     ext-getD 0 (bill-of (rows ++ row ∷ [])) (set (bill-of rows) (length row) (getD (bill-of rows) (length row) 0 + 1))
     (bill-length (rows ++ row ∷ []) ∙ sym (length-set (bill-of rows) (length row) _ ∙ bill-length rows))
     (λ k l.
-      let m : k < lengths = omega (arith, bill-length (rows ++ row ∷ [])) in
-      let e = bill-at (rows ++ row ∷ []) k m ∙ rows-push rows row k in
-      let f = bill-at rows k m in
-      e ∙ (ap (λ (n : ℕ). n + cond (eqb (length row) k) 1 0) (sym f) ∙ sym (set-more (bill-of rows) (length row) k (omega (arith, bill-length rows)))))
+    let m : k < lengths = omega (arith, bill-length (rows ++ row ∷ [])) in
+    let e = bill-at (rows ++ row ∷ []) k m ∙ rows-push rows row k in
+    let f = bill-at rows k m in
+    e ∙ (ap (λ (n : ℕ). n + cond (eqb (length row) k) 1 0) (sym f) ∙ sym (set-more (bill-of rows) (length row) k (omega (arith, bill-length rows)))))

@@ -18,7 +18,9 @@ impl Bill {
     pub fn empty() -> Bill
         ensures { λ r. ⌜ r .counts ≡ replicate lengths 0 ⌝ }
     {
-        Bill { counts: [0; LENGTHS] }
+        Bill {
+            counts: [0; LENGTHS],
+        }
     }
 
     // The number of rows of a length; 0 at a length that no row has.

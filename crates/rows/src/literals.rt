@@ -14,7 +14,11 @@ pub const VARIABLES: u32 = 32_768;
 pub fn positive(variable: u32) -> Option<Literal>
     ensures { λ r. ⌜ Checked r (variable < within) (2 * variable) ⌝ }
 {
-    if variable < VARIABLES { Some((2 * variable) as u16) } else { None }
+    if variable < VARIABLES {
+        Some((2 * variable) as u16)
+    } else {
+        None
+    }
 }
 
 // The variable that a literal speaks of.
@@ -28,5 +32,9 @@ pub fn variable(literal: Literal) -> u32
 pub fn negated(literal: Literal) -> Literal
     ensures { λ r. ⌜ r ≡ opposite literal ⌝ }
 {
-    if literal % 2 == 0 { literal + 1 } else { literal - 1 }
+    if literal % 2 == 0 {
+        literal + 1
+    } else {
+        literal - 1
+    }
 }

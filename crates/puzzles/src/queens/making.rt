@@ -16,7 +16,10 @@ impl<'a> Queens<'a> {
     pub fn new() -> Queens<'a>
         ensures { λ r. ⌜ Made r 1 [] ⌝ }
     {
-        Queens { size: 1, givens: &[] }
+        Queens {
+            size: 1,
+            givens: &[],
+        }
     }
 
     // Sets the size and the givens, which are lent, or refuses and leaves the puzzle as it was:
@@ -33,7 +36,10 @@ impl<'a> Queens<'a> {
         if let Some(i) = first_outside(size, size, givens) {
             return Err(Fault::here(Stop::Entry(i as u64)));
         }
-        *self = Queens { size: size as u8, givens };
+        *self = Queens {
+            size: size as u8,
+            givens,
+        };
         Ok(())
     }
 }

@@ -5,6 +5,7 @@ ghost use Rattle.puzzles.specs.Lines.{row-of};
 ghost use Rattle.puzzles.specs.Making.{queens-of};
 ghost use Rattle.puzzles.specs.Queens.{falling, largest, rising};
 ghost use Rattle.rows.specs.Buffers.{held};
+ghost use Rattle.rows.specs.Literals.{within};
 use crate::boards::Puzzle;
 use crate::checks::all_below;
 use crate::filling::push_variable;
@@ -25,7 +26,7 @@ fn diagonals(n: u32) -> u32
 
 // The row of the diagonal on which column - row is d - n, with its slack.
 fn falling_row(n: u32, d: u32, slack: u32) -> Row
-    requires { ⌜ n ≤ largest ⌝ ∗ ⌜ d < 2 * n ⌝ ∗ ⌜ slack < 1000 ⌝ }
+    requires { ⌜ n ≤ largest ⌝ ∗ ⌜ d < 2 * n ⌝ ∗ ⌜ slack < within ⌝ }
     ensures { λ r. ⌜ held r ≡ row-of n slack (falling n d) ⌝ }
 {
     let mut row = if d >= n {
@@ -39,7 +40,7 @@ fn falling_row(n: u32, d: u32, slack: u32) -> Row
 
 // The row of the diagonal on which row + column is d, with its slack.
 fn rising_row(n: u32, d: u32, slack: u32) -> Row
-    requires { ⌜ n ≤ largest ⌝ ∗ ⌜ 0 < n ⌝ ∗ ⌜ d + 1 < 2 * n ⌝ ∗ ⌜ slack < 1000 ⌝ }
+    requires { ⌜ n ≤ largest ⌝ ∗ ⌜ d + 1 < 2 * n ⌝ ∗ ⌜ slack < within ⌝ }
     ensures { λ r. ⌜ held r ≡ row-of n slack (rising n d) ⌝ }
 {
     let mut row = if d < n {
@@ -53,6 +54,8 @@ fn rising_row(n: u32, d: u32, slack: u32) -> Row
 
 pub impl<'a> Puzzle for Queens<'a> as QueensPuzzle {
     ghost board = { queens-of };
+
+    fn lined(&self) {}
 
     fn size(&self) -> u8 {
         self.size
@@ -97,6 +100,9 @@ pub impl<'a> Puzzle for Queens<'a> as QueensPuzzle {
         if answer.len() != n {
             return false;
         }
-        all_below(n, answer) && one_per_column(n, answer) && all_apart(answer) && all_given(n, self.givens, answer)
+        all_below(n, answer)
+            && one_per_column(n, answer)
+            && all_apart(answer)
+            && all_given(n, self.givens, answer)
     }
 }

@@ -15,7 +15,10 @@ impl Row {
     pub fn new() -> Row
         ensures { λ r. ⌜ held r ≡ [] ⌝ }
     {
-        Row { literals: [0; LONGEST], len: 0 }
+        Row {
+            literals: [0; LONGEST],
+            len: 0,
+        }
     }
 
     // One literal more; false where the row has the most that a row may have, and then it stays as it is.

@@ -25,11 +25,11 @@ pub loop-i-again : need.loop-i-again
 loop-i-again g c =
     let rs = rows (g .P·Puzzle .board (c .args .puzzle .now)) in
     elim (c .match-row .came) [
-      in-Some w ↦
-        let r = read-some rs (c .loop-i .i) (c .row .result) (w .in-Some .row) (c .row .ensures) (w .in-Some .is) in
-        let l : length (w .literals .result .now) ≤ longest = rw (w .literals .ensures) (held-short (w .in-Some .row)) in
-        ap (λ (b : Bill). b .counts) (w .bill-is) ∙ tally-step rs (c .loop-i .i) (c .loop-i .bill .counts) (w .literals .result .now) (r .0) (w .literals .ensures ∙ r .1) l (c .loop-i .inv)
-    | in-rest w ↦ read-none rs (c .loop-i .i) (c .row .result) (omega arith) (c .row .ensures) (w .in-rest .is)
+      | in-Some w ↦
+          let r = read-some rs (c .loop-i .i) (c .row .result) (w .in-Some .row) (c .row .ensures) (w .in-Some .is) in
+          let l : length (w .literals .result .now) ≤ longest = rw (w .literals .ensures) (held-short (w .in-Some .row)) in
+          ap (λ (b : Bill). b .counts) (w .bill-is) ∙ tally-step rs (c .loop-i .i) (c .loop-i .bill .counts) (w .literals .result .now) (r .0) (w .literals .ensures ∙ r .1) l (c .loop-i .inv)
+      | in-rest w ↦ read-none rs (c .loop-i .i) (c .row .result) (omega arith) (c .row .ensures) (w .in-rest .is)
     ]
 
 pub returns : need.returns

@@ -15,7 +15,7 @@ pub returns-in-Break-holds : need.returns-in-Break-holds
 returns-in-Break-holds g c =
     let b = g .P·Puzzle .board (c .args .puzzle .now) in
     let r = read-some (rows b) (c .loop-i .i) (c .row .result) (c .in-Some .row) (c .row .ensures) (c .in-Some .is) in
-    let j = judged-board b (c .vars .ensures .lined) (c .args .values .now) (c .if-values-vars .left ∙ c .vars .ensures .value) (c .loop-i .i) (c .literals .result .now) (r .0) (c .literals .ensures ∙ r .1) (rw (c .literals .ensures) (held-short (c .in-Some .row))) in
+    let j = judged-board b (c .lined .ensures) (c .args .values .now) (c .if-values-vars .left ∙ c .vars .ensures) (c .loop-i .i) (c .literals .result .now) (r .0) (c .literals .ensures ∙ r .1) (rw (c .literals .ensures) (held-short (c .in-Some .row))) in
     let e = c .in-Break-holds .was tt in
     let f = c .judge .ensures in
     let z : _≡_ {A = ℕ} 0 1 = cc in
@@ -25,8 +25,8 @@ pub returns-then-not-holds : need.returns-then-not-holds
 returns-then-not-holds g c =
     let b = g .P·Puzzle .board (c .args .puzzle .now) in
     let r = read-some (rows b) (c .loop-i .i) (c .row .result) (c .in-Some .row) (c .row .ensures) (c .in-Some .is) in
-    let n = c .if-values-vars .left ∙ c .vars .ensures .value in
-    let j = judged-board b (c .vars .ensures .lined) (c .args .values .now) n (c .loop-i .i) (c .literals .result .now) (r .0) (c .literals .ensures ∙ r .1) (rw (c .literals .ensures) (held-short (c .in-Some .row))) in
+    let n = c .if-values-vars .left ∙ c .vars .ensures in
+    let j = judged-board b (c .lined .ensures) (c .args .values .now) n (c .loop-i .i) (c .literals .result .now) (r .0) (c .literals .ensures ∙ r .1) (rw (c .literals .ensures) (held-short (c .in-Some .row))) in
     let e = c .in-Continue-holds .was tt in
     let f = c .judge .ensures in
     failing-is b (c .args .values .now) _ n (false-found (valuation (c .args .values .now)) (rows b) (c .loop-i .i) (c .literals .result .now) (r .0) (c .literals .ensures ∙ r .1) (cc) (c .loop-i .inv))
@@ -35,17 +35,17 @@ pub loop-i-again : need.loop-i-again
 loop-i-again g c =
     let b = g .P·Puzzle .board (c .args .puzzle .now) in
     elim (c .match-row .came) [
-      in-Some·in-Continue-holds·else-not-holds w ↦
-        let r = read-some (rows b) (c .loop-i .i) (c .row .result) (w .in-Some .row) (c .row .ensures) (w .in-Some .is) in
-        let n = c .if-values-vars .left ∙ c .vars .ensures .value in
-        let j = judged-board b (c .vars .ensures .lined) (c .args .values .now) n (c .loop-i .i) (w .literals .result .now) (r .0) (w .literals .ensures ∙ r .1) (rw (w .literals .ensures) (held-short (w .in-Some .row))) in
-        let e = w .in-Continue-holds .was tt in
-        let f = w .judge .ensures in
-        false-step (valuation (c .args .values .now)) (rows b) (c .loop-i .i) (w .literals .result .now) (r .0) (w .literals .ensures ∙ r .1) (cc) (c .loop-i .inv)
-    | in-rest w ↦ read-none (rows b) (c .loop-i .i) (c .row .result) (omega arith) (c .row .ensures) (w .in-rest .is)
+      | in-Some·in-Continue-holds·else-not-holds w ↦
+          let r = read-some (rows b) (c .loop-i .i) (c .row .result) (w .in-Some .row) (c .row .ensures) (w .in-Some .is) in
+          let n = c .if-values-vars .left ∙ c .vars .ensures in
+          let j = judged-board b (c .lined .ensures) (c .args .values .now) n (c .loop-i .i) (w .literals .result .now) (r .0) (w .literals .ensures ∙ r .1) (rw (w .literals .ensures) (held-short (w .in-Some .row))) in
+          let e = w .in-Continue-holds .was tt in
+          let f = w .judge .ensures in
+          false-step (valuation (c .args .values .now)) (rows b) (c .loop-i .i) (w .literals .result .now) (r .0) (w .literals .ensures ∙ r .1) (cc) (c .loop-i .inv)
+      | in-rest w ↦ read-none (rows b) (c .loop-i .i) (c .row .result) (omega arith) (c .row .ensures) (w .in-rest .is)
     ]
 
 pub returns : need.returns
 returns g c =
     let b = g .P·Puzzle .board (c .args .puzzle .now) in
-    failing-is b (c .args .values .now) _ (c .if-values-vars .left ∙ c .vars .ensures .value) (false-none (valuation (c .args .values .now)) (rows b) (c .loop-i .i) (omega arith) (c .loop-i .inv))
+    failing-is b (c .args .values .now) _ (c .if-values-vars .left ∙ c .vars .ensures) (false-none (valuation (c .args .values .now)) (rows b) (c .loop-i .i) (omega arith) (c .loop-i .inv))

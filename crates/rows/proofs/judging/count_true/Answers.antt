@@ -16,8 +16,8 @@ loop-i-again c =
     let k = counting-step (c .args .values .now) (c .args .row .now) (c .loop-i .i) (c .loop-i .trues) (c .in-Some .holds) (omega arith) (sym (c .truth .ensures) ∙ c .in-Some .is) (c .loop-i .inv) in
     let P : ℕ → Type 0 = λ n. Counting (c .args .values .now) (c .args .row .now) (c .loop-i .i + 1) n in
     elim (c .if-holds .came) [
-      then-holds w ↦ subst P (grind (arith, tells)) k
-    | else-holds w ↦ subst P (grind (arith, tells)) k
+      | then-holds w ↦ subst P (grind (arith, tells)) k
+      | else-holds w ↦ subst P (grind (arith, tells)) k
     ]
 
 pub returns : need.returns

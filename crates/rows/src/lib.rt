@@ -5,6 +5,8 @@ mod judging;
 mod kinds;
 mod literals;
 mod stops;
+#[cfg(test)]
+mod tests;
 
 pub use bills::Bill;
 pub use bills::BillDisplay;
@@ -21,5 +23,8 @@ pub use literals::negated;
 pub use literals::positive;
 pub use literals::variable;
 pub use stops::Fault;
+pub use stops::FaultDebug;
 pub use stops::FaultDisplay;
+pub use stops::FaultError;
+pub use stops::FaultPartialEq;
 pub use stops::Stop;

@@ -3,6 +3,7 @@ ghost use mathlib.Core.Path.{_≡_};
 ghost use denote.Ref.{now};
 ghost use Rattle.rows.specs.Stops.{fault-place, fault-text, here, stop-name, stop-number};
 ghost use Rattle.std.specs.declared.option.Option.the-variants.{Some};
+use std::error::Error;
 use std::fmt;
 
 // The reason of a refusal, with the place where it arose. Joint and Big have the fault's depth as their place.
@@ -154,3 +155,5 @@ pub impl fmt::Display for Fault as FaultDisplay {
         write!(f, "stop {number} {name}, place {place}, depth {depth}")
     }
 }
+
+pub impl Error for Fault as FaultError {}

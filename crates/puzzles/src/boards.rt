@@ -2,7 +2,7 @@
 ghost use mathlib.Core.Path.{_≡_};
 ghost use lib.ListN.{length};
 ghost use denote.Ref.{now};
-ghost use Rattle.puzzles.specs.Boards.{Board, Lined, rows as board-rows, vars as board-vars};
+ghost use Rattle.puzzles.specs.Boards.{Board, Faithful, Lined, rows as board-rows, vars as board-vars};
 ghost use Rattle.rows.specs.Buffers.{held};
 ghost use Rattle.std.specs.Options.{mapped};
 ghost use Rattle.std.specs.shelf.Maps.{nth};
@@ -42,4 +42,12 @@ pub trait Puzzle {
     // Whether bytes are an answer.
     fn is_answer(&self, answer: &[u8]) -> bool
         ensures { λ r. ⌜ r ≡ board (now (self .entry)) .answer (now (answer .entry)) ⌝ };
+}
+
+// The law of every puzzle: its answers and the solutions of its rows match one to one, by `encode` and `decode`.
+// Nothing is run: a call brings the law into the caller's proof.
+pub fn faithful<P: Puzzle>(puzzle: &P)
+    ensures { λ _. ⌜ Faithful (P·Puzzle .board (now (puzzle .entry))) ⌝ }
+{
+    puzzle.lined();
 }

@@ -5,27 +5,20 @@ ghost use mathlib.Core.List.{List, [], _∷_, _++_};
 ghost use Prim.Native.Nat.{ℕ, _*_, _/_, _<_, _≤_};
 ghost use lib.Dec.{eqb};
 ghost use lib.ListN.{drop, length, set};
-ghost use Rattle.puzzles.specs.Boards.{Faithful, encode as encoding, vars as board-vars};
+ghost use Rattle.puzzles.specs.Boards.{encode as encoding, vars as board-vars};
 ghost use Rattle.puzzles.specs.Calls.{Decoded, Encoded, decode-stop, encode-stop, fill-stop};
 ghost use Rattle.puzzles.specs.Lines.{board-values, values-of};
 ghost use Rattle.rows.specs.Stops.{Unless};
 ghost use Rattle.rows.specs.Truth.{trues, truths, valuation};
 ghost use Rattle.std.specs.shelf.Lists.{All, leading};
 use crate::boards::Puzzle;
+use crate::boards::faithful;
 use crate::calls::first_false;
 use rows::Fault;
 use rows::Literal;
 use rows::Stop;
 use rows::count_true;
 use rows::variable;
-
-// The law of every puzzle: its answers and the solutions of its rows match one to one, by `encode` and `decode`.
-// Nothing is run: a call brings the law into the caller's proof.
-pub fn faithful<P: Puzzle>(puzzle: &P)
-    ensures { λ _. ⌜ Faithful (P·Puzzle .board (now (puzzle .entry))) ⌝ }
-{
-    puzzle.lined();
-}
 
 // The truth values of a filled board, right or wrong, into the first of `values`; the rest stays as it is.
 // A byte of the size or more makes no variable of its place true; a slack is true where no cell of its row is.

@@ -8,11 +8,11 @@ mod givens;
 mod queens;
 
 pub use boards::Puzzle;
+pub use boards::faithful;
 pub use calls::bill;
 pub use calls::first_false;
 pub use coding::decode;
 pub use coding::encode;
-pub use coding::faithful;
 pub use coding::fill;
 pub use givens::ENTRIES;
 pub use givens::Given;

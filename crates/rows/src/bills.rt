@@ -1,8 +1,7 @@
 // Bills: how many rows of each length are to be posted.
 ghost use mathlib.Core.Path.{_≡_};
-ghost use lib.ListN.{getD, replicate};
+ghost use lib.ListN.{replicate};
 ghost use Rattle.rows.specs.Kinds.{lengths};
-ghost use Rattle.std.specs.shelf.Lists.{sum};
 use crate::kinds::LENGTHS;
 use std::fmt;
 
@@ -21,24 +20,6 @@ impl Bill {
         Bill {
             counts: [0; LENGTHS],
         }
-    }
-
-    // The number of rows of a length; 0 at a length that no row has.
-    pub fn count(&self, len: usize) -> u32
-        ensures { λ r. ⌜ r ≡ getD (now (self .entry) .counts) len 0 ⌝ }
-    {
-        if len < LENGTHS { self.counts[len] } else { 0 }
-    }
-
-    // The number of rows of all lengths.
-    pub fn rows(&self) -> u64
-        ensures { λ r. ⌜ r ≡ sum (now (self .entry) .counts) ⌝ }
-    {
-        let mut rows: u64 = 0;
-        for count in &self.counts {
-            rows += *count as u64;
-        }
-        rows
     }
 }
 

@@ -8,7 +8,7 @@ use crate::stops::Fault;
 use crate::stops::Stop;
 
 // The truth of a literal; none where the values do not reach its variable.
-pub fn truth(values: &[bool], literal: Literal) -> Option<bool>
+fn truth(values: &[bool], literal: Literal) -> Option<bool>
     ensures { λ r. ⌜ r ≡ truth-in (now (values .entry)) literal ⌝ }
 {
     let at = variable(literal) as usize;

@@ -13,7 +13,6 @@ pub use bills::BillDisplay;
 pub use buffers::Row;
 pub use judging::count_true;
 pub use judging::judge;
-pub use judging::truth;
 pub use kinds::Kind;
 pub use kinds::LENGTHS;
 pub use kinds::LONGEST;

@@ -41,7 +41,7 @@ pub enum Stop {
 
 impl Stop {
     // The stop's number, 1 to 14.
-    pub fn number(self) -> u8
+    fn number(self) -> u8
         ensures { λ r. ⌜ r ≡ stop-number self ⌝ }
     {
         match self {
@@ -63,7 +63,7 @@ impl Stop {
     }
 
     // The stop's name in messages.
-    pub fn name(self) -> &'static str
+    fn name(self) -> &'static str
         ensures { λ r. ⌜ now r ≡ stop-name self ⌝ }
     {
         match self {
@@ -111,14 +111,15 @@ impl Fault {
     pub fn number(&self) -> u8
         ensures { λ r. ⌜ r ≡ stop-number (now (self .entry) .stop) ⌝ }
     {
-        self.stop.number()
+        let stop = self.stop();
+        stop.number()
     }
 
     // Where: a size, a count, an index or a length, as the stop's table says.
     pub fn place(&self) -> u64
         ensures { λ r. ⌜ r ≡ fault-place (now (self .entry)) ⌝ }
     {
-        match self.stop {
+        match self.stop() {
             Stop::Joint => self.depth as u64,
             Stop::Big => self.depth as u64,
             Stop::Size(place) => place,
@@ -149,7 +150,7 @@ pub impl fmt::Display for Fault as FaultDisplay {
 
     fn fmt<W: fmt::Write>(&self, f: &mut fmt::Formatter<W>) -> fmt::Result {
         let number = self.number();
-        let name = self.stop.name();
+        let name = self.stop().name();
         let place = self.place();
         let depth = self.depth;
         write!(f, "stop {number} {name}, place {place}, depth {depth}")

@@ -12,7 +12,6 @@ use crate::count_true;
 use crate::judge;
 use crate::negated;
 use crate::positive;
-use crate::truth;
 use crate::variable;
 use std::test::*;
 
@@ -23,10 +22,7 @@ fn literals() -> Result<(), Fail> {
     check_eq(positive(32_768), None)?;
     check_eq(negated(6), 7)?;
     check_eq(negated(65_535), 65_534)?;
-    check_eq(variable(65_535), 32_767)?;
-    check_eq(truth(&[false, true], 2), Some(true))?;
-    check_eq(truth(&[false, true], 3), Some(false))?;
-    check_eq(truth(&[false, true], 4), None)
+    check_eq(variable(65_535), 32_767)
 }
 
 // By kind: the shortest and longest length, and whether 0, 1 and 2 true positions make a row true.

@@ -62,7 +62,7 @@ pub impl<'a> Puzzle for Queens<'a> as QueensPuzzle {
     }
 
     fn places(&self) -> usize {
-        self.size as usize
+        usize::from(self.size)
     }
 
     fn vars(&self) -> u32 {

@@ -11,7 +11,7 @@ use Rattle.std.specs.declared.result.Result.the-variants.{Ok, Err}
 use Rattle.rows.specs.declared.kinds.Kind.the-variants.{Cover}
 use Rattle.rows.specs.declared.stops.Fault.{Fault}
 use Rattle.rows.specs.declared.stops.Stop.the-variants.{Small, Length, Wrong}
-use Rattle.rows.specs.Stops.{here, stop-if, _then-if_}
+use Rattle.rows.specs.Stops.{Unless, here, stop-if, _then-if_}
 use Rattle.rows.specs.Truth.{valuation, first-false}
 use Rattle.puzzles.specs.Boards.{Board, vars, rows, solution, encode, decode}
 
@@ -42,3 +42,15 @@ pub record Decoded (b : Board) (xs : List Bool) (before after : List ℕ) : Type
   pub written : after ≡ decode b xs ++ drop (b .places) before
   pub answers : b .answer (decode b xs) ≡ true
   pub back : encode b (decode b xs) ≡ xs
+
+-- to fill truth values from bytes: refused and left as they were, or the first are those of the filled board
+abbrev pub Fills : Board → List ℕ → List Bool → List Bool → Result (Unit {0}) Fault → Type 0
+Fills b a before after r = Unless (fill-stop b (length a) (length before)) (after ≡ before) (after ≡ encode b a ++ drop (vars b) before) r
+
+-- to encode an answer: refused and left as they were, or encoded
+abbrev pub Encodes : Board → List ℕ → List Bool → List Bool → Result (Unit {0}) Fault → Type 0
+Encodes b a before after r = Unless (encode-stop b a (length before)) (after ≡ before) (Encoded b a before after) r
+
+-- to decode truth values: refused and left as they were, or decoded
+abbrev pub Decodes : Board → List Bool → List ℕ → List ℕ → Result (Unit {0}) Fault → Type 0
+Decodes b xs before after r = Unless (decode-stop b xs (length before)) (after ≡ before) (Decoded b xs before after) r

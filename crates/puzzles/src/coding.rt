@@ -6,7 +6,7 @@ ghost use Prim.Native.Nat.{ℕ, _*_, _/_, _<_, _≤_};
 ghost use lib.Dec.{eqb};
 ghost use lib.ListN.{drop, length, set};
 ghost use Rattle.puzzles.specs.Boards.{encode as encoding, vars as board-vars};
-ghost use Rattle.puzzles.specs.Calls.{Decoded, Encoded, decode-stop, encode-stop, fill-stop};
+ghost use Rattle.puzzles.specs.Calls.{Decodes, Encodes, Fills, fill-stop};
 ghost use Rattle.puzzles.specs.Lines.{board-values, values-of};
 ghost use Rattle.rows.specs.Stops.{Unless};
 ghost use Rattle.rows.specs.Truth.{trues, truths, valuation};
@@ -24,7 +24,7 @@ use rows::variable;
 // A byte of the size or more makes no variable of its place true; a slack is true where no cell of its row is.
 // Stop 13 where there is no room for all variables, stop 3 where there is not a byte for each place.
 pub fn fill<P: Puzzle>(puzzle: &P, answer: &[u8], values: &mut [bool]) -> Result<(), Fault>
-    ensures { λ r. ⌜ Unless (fill-stop (P·Puzzle .board (now (puzzle .entry))) (length (now (answer .entry))) (length (now (values .entry)))) (now (values .exit) ≡ now (values .entry)) (now (values .exit) ≡ encoding (P·Puzzle .board (now (puzzle .entry))) (now (answer .entry)) ++ drop (board-vars (P·Puzzle .board (now (puzzle .entry)))) (now (values .entry))) r ⌝ }
+    ensures { λ r. ⌜ Fills (P·Puzzle .board (now (puzzle .entry))) (now (answer .entry)) (now (values .entry)) (now (values .exit)) r ⌝ }
 {
     check_fill(puzzle, answer.len(), values.len())?;
     fill_all(puzzle, answer, values);
@@ -34,7 +34,7 @@ pub fn fill<P: Puzzle>(puzzle: &P, answer: &[u8], values: &mut [bool]) -> Result
 // The truth values of an answer, by which every row is true. Stops 13 and 3 as for any filled board, then stop 5, place 0,
 // where the bytes are no answer.
 pub fn encode<P: Puzzle>(puzzle: &P, answer: &[u8], values: &mut [bool]) -> Result<(), Fault>
-    ensures { λ r. ⌜ Unless (encode-stop (P·Puzzle .board (now (puzzle .entry))) (now (answer .entry)) (length (now (values .entry)))) (now (values .exit) ≡ now (values .entry)) (Encoded (P·Puzzle .board (now (puzzle .entry))) (now (answer .entry)) (now (values .entry)) (now (values .exit))) r ⌝ }
+    ensures { λ r. ⌜ Encodes (P·Puzzle .board (now (puzzle .entry))) (now (answer .entry)) (now (values .entry)) (now (values .exit)) r ⌝ }
 {
     check_fill(puzzle, answer.len(), values.len())?;
     if !puzzle.is_answer(answer) {
@@ -49,7 +49,7 @@ pub fn encode<P: Puzzle>(puzzle: &P, answer: &[u8], values: &mut [bool]) -> Resu
 // Stop 13 where there is no room for all places, stop 3 where there is not a value for each variable, stop 5, place 0,
 // where a row is not true.
 pub fn decode<P: Puzzle>(puzzle: &P, values: &[bool], answer: &mut [u8]) -> Result<(), Fault>
-    ensures { λ r. ⌜ Unless (decode-stop (P·Puzzle .board (now (puzzle .entry))) (now (values .entry)) (length (now (answer .entry)))) (now (answer .exit) ≡ now (answer .entry)) (Decoded (P·Puzzle .board (now (puzzle .entry))) (now (values .entry)) (now (answer .entry)) (now (answer .exit))) r ⌝ }
+    ensures { λ r. ⌜ Decodes (P·Puzzle .board (now (puzzle .entry))) (now (values .entry)) (now (answer .entry)) (now (answer .exit)) r ⌝ }
 {
     let places = puzzle.places();
     if answer.len() < places {

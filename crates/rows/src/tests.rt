@@ -108,11 +108,7 @@ fn bills_in_words(rt: LibcRuntime) -> Result<(), Fail> {
     check(format!(rt.alloc(), "{bill}")?.as_str() == "none")?;
     bill.counts[0] = 1;
     bill.counts[16] = 70_000;
-    check(format!(rt.alloc(), "{bill}")?.as_str() == "1 of length 0, 70000 of length 16")?;
-    check_eq(
-        (bill.rows(), bill.count(16), bill.count(17)),
-        (70_001, 70_000, 0),
-    )
+    check(format!(rt.alloc(), "{bill}")?.as_str() == "1 of length 0, 70000 of length 16")
 }
 
 #[test]

@@ -1,8 +1,6 @@
 // Making a queens puzzle.
 ghost use mathlib.Core.List.{[]};
-ghost use mathlib.Core.Path.{_≡_};
-ghost use Rattle.puzzles.specs.Making.{Made, queens-stop};
-ghost use Rattle.rows.specs.Stops.{Unless};
+ghost use Rattle.puzzles.specs.Making.{Made, Makes};
 use crate::givens::ENTRIES;
 use crate::givens::Given;
 use crate::givens::checking::first_outside;
@@ -25,7 +23,7 @@ impl<'a> Queens<'a> {
     // Sets the size and the givens, which are lent, or refuses and leaves the puzzle as it was:
     // stop 1 for a size that is not 1 to 12, stop 2 for more than 256 givens, stop 4 for the first given off the board.
     pub fn make(&mut self, size: usize, givens: &'a [Given]) -> Result<(), Fault>
-        ensures { λ r. ⌜ Unless (queens-stop size (now (givens .entry))) (Made (now (self .exit)) (now (self .entry) .size) (now (now (self .entry) .givens))) (Made (now (self .exit)) size (now (givens .entry))) r ⌝ }
+        ensures { λ r. ⌜ Makes (now (self .entry)) (now (self .exit)) size (now (givens .entry)) r ⌝ }
     {
         if size < 1 || size > LARGEST {
             return Err(Fault::here(Stop::Size(size as u64)));

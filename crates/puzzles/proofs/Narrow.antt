@@ -1,7 +1,7 @@
 -- The rows of a board reach no variable that the board does not have.
 use mathlib.Core.Path.{_≡_, refl}
-use mathlib.Core.List.{List, [], _∷_, _++_, map}
-use mathlib.Core.Bool.{Bool, true, false, cond}
+use mathlib.Core.List.{List, [], _∷_, map}
+use mathlib.Core.Bool.{true, false, cond}
 use Prim.Native.Nat.{ℕ, _+_, _*_, _/_, _≤_, _<_}
 use native.Mathlib.Nat.{mul-comm}
 use native.Mathlib.Omega.{arith}
@@ -12,7 +12,7 @@ use Rattle.std.proofs.shelf.Bits.{mul-add-lt}
 use Rattle.std.proofs.shelf.Elements.{all-append, all-map, all-weaker, all-getD}
 use Rattle.std.proofs.shelf.Ways.{tells}
 use Rattle.rows.specs.Truth.{first-wide}
-use Rattle.puzzles.specs.Lines.{Cell, Line, variable-of, row-of, rows-from, slacks}
+use Rattle.puzzles.specs.Lines.{Line, variable-of, row-of, rows-from, slacks}
 use Rattle.puzzles.specs.Boards.{Board, Lined, cells, vars, rows}
 
 -- where each variable is below n, none is too wide

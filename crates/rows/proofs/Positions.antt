@@ -1,6 +1,6 @@
 -- A loop over the positions of a row that counts the true ones and stops at the first literal that is too wide.
-use mathlib.Core.Path.{_≡_, refl, sym, ap, _∙_}
-use mathlib.Core.List.{List, [], _∷_}
+use mathlib.Core.Path.{_≡_, refl, ap, _∙_}
+use mathlib.Core.List.{List}
 use mathlib.Core.Bool.{Bool, true, false, cond}
 use Prim.Native.Nat.{ℕ, _+_, _/_, _≤_, _<_}
 use native.Mathlib.Omega.{arith}
@@ -8,16 +8,14 @@ use lib.Dec.{ltb}
 use lib.ListN.{length, drop, getD}
 use Rattle.std.specs.declared.option.Option.{Option}
 use Rattle.std.specs.declared.option.Option.the-variants.{Some, None}
-use Rattle.std.specs.declared.result.Result.{Result}
 use Rattle.std.specs.declared.result.Result.the-variants.{Ok, Err}
 use Rattle.std.proofs.shelf.Ways.{tells}
 use Rattle.std.proofs.shelf.Lists.{at-drop-more, at-drop-all}
-use Rattle.rows.specs.declared.stops.Fault.{Fault}
 use Rattle.rows.specs.declared.stops.Stop.the-variants.{Literal}
 use Rattle.rows.specs.Literals.{truth-of}
 use Rattle.rows.specs.Stops.{here}
 use Rattle.rows.specs.Truth.{valuation, truths, trues, first-wide}
-use Rattle.rows.specs.Judging.{truth-in, counted, unless-wide}
+use Rattle.rows.specs.Judging.{truth-in, counted}
 
 -- before position i no literal is too wide, and n positions are true
 pub record Counting (xs : List Bool) (row : List ℕ) (i n : ℕ) : Type 0 where

@@ -1,10 +1,10 @@
 use native.Mathlib.Omega.{arith}
-use mathlib.Core.Path.{_≡_, refl, sym, ap, subst, _∙_}
+use mathlib.Core.Path.{_≡_, _∙_}
 use mathlib.Core.List.{List, _++_}
 use mathlib.Core.Bool.{Bool}
-use Prim.Native.Nat.{ℕ, suc, _+_, _*_, _≤_}
+use Prim.Native.Nat.{ℕ, _*_}
 use lib.ListN.{length, drop}
-use Rattle.puzzles.specs.Boards.{rows, cells, vars}
+use Rattle.puzzles.specs.Boards.{rows}
 use Rattle.puzzles.specs.Lines.{board-values}
 use Rattle.puzzles.proofs.Reading.{read-some, read-none}
 use Rattle.puzzles.proofs.SlackSteps.{filled-none, fill-step, filled-all}

@@ -1,11 +1,7 @@
 use native.Mathlib.Omega.{arith}
-use mathlib.Core.Path.{_≡_, refl, sym, ap, subst, _∙_}
+use mathlib.Core.Path.{_≡_, refl, ap, subst, _∙_}
 use mathlib.Core.Logic.{⊎-elim}
-use mathlib.Core.List.{List, [], _∷_, _++_}
-use mathlib.Core.Bool.{Bool}
-use Prim.Native.Nat.{ℕ, _*_, _/_, _<_, _≤_}
-use lib.Dec.{eqb}
-use lib.ListN.{set, length}
+use Prim.Native.Nat.{_*_, _/_, _<_}
 use Rattle.std.specs.Results.{valueOr}
 use Rattle.std.specs.shelf.Lists.{All}
 use Rattle.rows.specs.Truth.{valuation, truths, trues}

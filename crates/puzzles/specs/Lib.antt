@@ -4,4 +4,4 @@ pub mod Calls
 pub mod Words
 pub mod Givens
 pub mod Queens
-pub mod Making
+pub mod QueensMade

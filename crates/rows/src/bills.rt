@@ -1,7 +1,9 @@
 // Bills: how many rows of each length are to be posted.
 ghost use mathlib.Core.Path.{_≡_};
 ghost use lib.ListN.{replicate};
+ghost use Rattle.rows.specs.Bills.{bill-text};
 ghost use Rattle.rows.specs.Kinds.{lengths};
+ghost use Rattle.std.specs.declared.option.Option.the-variants.{Some};
 use crate::kinds::LENGTHS;
 use std::fmt;
 
@@ -25,6 +27,8 @@ impl Bill {
 
 // The counts above 0, as "4 of length 3, 12 of length 4", or "none".
 pub impl fmt::Display for Bill as BillDisplay {
+    ghost shown = { λ b. Some (bill-text (b .counts)) };
+
     fn fmt<W: fmt::Write>(&self, f: &mut fmt::Formatter<W>) -> fmt::Result {
         let mut any = false;
         for (len, count) in self.counts.iter().enumerate() {

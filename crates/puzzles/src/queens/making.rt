@@ -1,6 +1,6 @@
 // Making a queens puzzle.
 ghost use mathlib.Core.List.{[]};
-ghost use Rattle.puzzles.specs.Making.{Made, Makes};
+ghost use Rattle.puzzles.specs.QueensMade.{Made, Makes};
 use crate::givens::ENTRIES;
 use crate::givens::Given;
 use crate::givens::checking::first_outside;

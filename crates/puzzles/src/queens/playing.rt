@@ -2,7 +2,7 @@
 ghost use mathlib.Core.Path.{_≡_};
 ghost use Prim.Native.Nat.{_*_, _+_, _-_, _<_, _≤_};
 ghost use Rattle.puzzles.specs.Lines.{row-of};
-ghost use Rattle.puzzles.specs.Making.{queens-of};
+ghost use Rattle.puzzles.specs.QueensMade.{queens-of};
 ghost use Rattle.puzzles.specs.Queens.{falling, largest, rising};
 ghost use Rattle.rows.specs.Buffers.{held};
 ghost use Rattle.rows.specs.Literals.{within};

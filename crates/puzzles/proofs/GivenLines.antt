@@ -9,9 +9,8 @@ use Rattle.std.specs.shelf.Lists.{All}
 use Rattle.std.proofs.shelf.Tests.{and-parts, ltb-true}
 use Rattle.std.proofs.shelf.Ways.{tells}
 use Rattle.puzzles.specs.declared.givens.Given.{Given}
-use Rattle.puzzles.specs.Lines.{all-met}
+use Rattle.puzzles.specs.Lines.{Inside, all-met}
 use Rattle.puzzles.specs.Givens.{given-line, all-given, fits, all-fit}
-use Rattle.puzzles.proofs.Insides.{Inside}
 
 -- they are met where every given stands
 pub given-lines-met : (a : List ℕ) (gs : List Given) → all-met a (map given-line gs) ≡ all-given gs a

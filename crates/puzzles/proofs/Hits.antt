@@ -12,14 +12,10 @@ use Rattle.std.proofs.shelf.Counted.{map-counting-more, fill-by-all}
 use Rattle.std.proofs.shelf.Lists.{getD-map}
 use Rattle.std.proofs.shelf.Ways.{tells}
 use Rattle.rows.specs.Truth.{trues}
+use Rattle.rows.proofs.Tallies.{trues-append}
 use Rattle.puzzles.specs.Lines.{Cell, at, plain, taken, hits, met, all-met, place-lines}
 use Rattle.puzzles.specs.Words.{every, times}
 use Rattle.puzzles.proofs.Every.{every-same, all-met-every}
-
--- how many are true in two lists
-pub trues-append : (xs ys : List Bool) → trues (xs ++ ys) ≡ trues xs + trues ys
-trues-append [] ys = omega arith
-trues-append (x ∷ xs) ys = let e = trues-append xs ys in omega arith
 
 -- tests that agree on a range are true equally often
 pub trues-same : (t u : ℕ → Bool) (i m : ℕ) → ((k : ℕ) → i ≤ k → k < i + m → t k ≡ u k) → trues (map t (counting i m)) ≡ trues (map u (counting i m))

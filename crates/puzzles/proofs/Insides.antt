@@ -5,15 +5,7 @@ use native.Mathlib.Omega.{arith}
 use Rattle.std.specs.Iters.{counting}
 use Rattle.std.specs.shelf.Lists.{All, joined}
 use Rattle.std.proofs.shelf.Elements.{all-append, all-map}
-use Rattle.puzzles.specs.Lines.{Cell, Line, at, plain, place-lines}
-
--- a cell on the board
-abbrev pub On : ℕ → ℕ → Cell → Type 0
-On size places c = (c .place < places) × (c .value < size)
-
--- a line of such cells
-abbrev pub Inside : ℕ → ℕ → Line → Type 0
-Inside size places l = All (On size places) (l .cells)
+use Rattle.puzzles.specs.Lines.{On, Inside, at, plain, place-lines}
 
 -- what holds of each number of a range holds of all in the list
 pub all-counting : (P : ℕ → Type 0) (i m : ℕ) → ((k : ℕ) → i ≤ k → k < i + m → P k) → All P (counting i m)

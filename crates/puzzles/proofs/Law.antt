@@ -3,23 +3,24 @@ use mathlib.Core.Path.{_≡_, sym, subst, _∙_}
 use mathlib.Core.List.{List, map}
 use mathlib.Core.Logic.{⊎-elim}
 use mathlib.Core.Bool.{Bool, true, false}
-use Prim.Native.Nat.{ℕ, zero, suc, _+_, _-_, _*_, _/_, _%_, _≤_, _<_}
+use Prim.Native.Nat.{ℕ, _+_, _-_, _*_, _/_, _%_, _≤_, _<_}
 use native.Mathlib.Nat.{zero-add}
 use native.Mathlib.Omega.{arith}
 use lib.Dec.{eqb}
 use lib.ListN.{length, getD, take, drop}
 use Rattle.std.specs.Iters.{counting}
 use Rattle.std.specs.shelf.Lists.{All}
-use Rattle.std.proofs.shelf.Bits.{mul-add-lt, div-add-mod', div-below, mod-below}
+use Rattle.std.proofs.shelf.Bits.{mul-add-lt, div-add-mod', mod-below}
 use Rattle.std.proofs.shelf.Counted.{length-counting, getD-counting}
 use Rattle.std.proofs.shelf.Elements.{all-getD, all-weaker}
 use Rattle.std.proofs.shelf.Lists.{length-append, getD-append-left, getD-append-right, getD-append-add, ext-getD}
 use Rattle.std.proofs.shelf.Tests.{and-parts, and-from, eqb-true, eq-eqb, cases-lt}
 use Rattle.rows.specs.declared.kinds.Kind.the-variants.{Cover}
 use Rattle.rows.specs.Truth.{valuation, trues, all-hold}
-use Rattle.puzzles.specs.Lines.{Cell, Line, hits, all-met, variable-of, rows-from, board-values, slack-values}
+use Rattle.puzzles.specs.Lines.{Cell, Line, Inside, hits, all-met, variable-of, rows-from, board-values, slack-values}
 use Rattle.puzzles.specs.Boards.{Board, Lined, Lined-are-faithful, cells, vars, rows, solution, encode, decode}
 use Rattle.puzzles.proofs.Blocks.{one-true, leading-is, length-board, board-at, length-block, block-at, length-values, values-at, cells-of, length-tested, tested-at, value-below}
+use Rattle.puzzles.proofs.Writing.{place-below}
 use Rattle.puzzles.proofs.Slacks.{gives, gives-from, gives-at, length-slack-values, Agrees, rows-exact, places-met, places-hold}
 
 -- what holds of all numbers below n holds of each
@@ -29,25 +30,20 @@ all-below P n p h k =
     let l = length-counting 0 n in
     subst P e (all-getD P (counting 0 n) p 0 (omega arith) k)
 
--- where there is a board variable there is a value
-some-size : (i places size : ℕ) → i < places * size → 0 < size
-some-size i places zero h = omega arith
-some-size i places (suc n) h = omega arith
-
 -- f gives the board variables the truth that the values a do
 abbrev pub Fills : ℕ → ℕ → (ℕ → Bool) → List ℕ → Type 0
 Fills size places f a = (p v : ℕ) → p < places → v < size → f (p * size + v) ≡ eqb (getD a p 0) v
 
 -- so it does for the cells of lines on the board
-pub agrees : (size places : ℕ) (f : ℕ → Bool) (a : List ℕ) → Fills size places f a → (ls : List Line) → All (λ l. All (λ c. (c .place < places) × (c .value < size)) (l .cells)) ls → Agrees size f a ls
+pub agrees : (size places : ℕ) (f : ℕ → Bool) (a : List ℕ) → Fills size places f a → (ls : List Line) → All (Inside size places) ls → Agrees size f a ls
 agrees size places f a e ls k = all-weaker _ _ (λ l. all-weaker _ _ (λ c i. e (c .place) (c .value) (i .0) (i .1)) (l .cells)) ls k
 
 -- and for every board variable, which is that of a place and a value
 pub fills-all : (size places : ℕ) (f : ℕ → Bool) (a : List ℕ) → Fills size places f a → (i : ℕ) → i < places * size → getD (board-values size places a) i false ≡ f i
 fills-all size places f a e i h =
-    let z = some-size i places size h in
-    let p = div-below i size places z h in
-    let v = mod-below i size z in
+    let k = place-below i places size h in
+    let p = k .1 in
+    let v = mod-below i size (k .0) in
     subst (λ k. getD (board-values size places a) k false ≡ f k) (div-add-mod' i size) (board-at size places a (i / size) (i % size) p v ∙ sym (e (i / size) (i % size) p v))
 
 -- an encoding has a truth value for each variable

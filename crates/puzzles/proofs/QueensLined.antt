@@ -12,14 +12,14 @@ use Rattle.std.proofs.shelf.Elements.{all-append, all-kept-by}
 use Rattle.std.proofs.shelf.Tests.{and-parts, and-from, eqb-true, ltb-true}
 use Rattle.std.proofs.shelf.Ways.{tells}
 use Rattle.puzzles.specs.declared.givens.Given.{Given}
-use Rattle.puzzles.specs.Lines.{at, hits, met, all-met, place-lines}
+use Rattle.puzzles.specs.Lines.{On, Inside, at, hits, met, all-met, place-lines}
 use Rattle.puzzles.specs.Boards.{Lined}
 use Rattle.puzzles.specs.Words.{every, times}
 use Rattle.puzzles.specs.Givens.{most-entries, all-given, given-line, all-fit}
 use Rattle.puzzles.specs.Queens.{aligned, queens-answer, all-cells, column, falling, rising, queens-lines, queens, largest, makeable}
 use Rattle.puzzles.proofs.Every.{same-tests, same-after, every-elim, every-two-intro, every-two-elim, every-same, all-met-append, all-met-intro, all-met-elim, all-met-every}
 use Rattle.puzzles.proofs.Hits.{place-lines-met, hits-times, one-taken}
-use Rattle.puzzles.proofs.Insides.{On, Inside, all-counting, all-map-counting, all-joined, place-on, place-lines-inside}
+use Rattle.puzzles.proofs.Insides.{all-counting, all-map-counting, all-joined, place-on, place-lines-inside}
 use Rattle.puzzles.proofs.DiagonalCells.{falling-cells, rising-cells}
 use Rattle.puzzles.proofs.GivenLines.{given-lines-met, given-lines-inside}
 

@@ -4,20 +4,21 @@ use mathlib.Core.List.{List, [], _∷_, _++_, map, append-assoc, append-nil}
 use mathlib.Core.Bool.{Bool, true, false, cond}
 use Prim.Native.Nat.{ℕ, zero, suc, _+_, _*_, _/_, _≤_, _<_}
 use mathlib.Core.Logic.{⊎-elim}
-use native.Mathlib.Nat.{add-zero, add-assoc, mul-comm}
+use native.Mathlib.Nat.{add-zero, add-assoc}
 use native.Mathlib.Omega.{arith}
+use lib.Arith.{digits-lt}
 use lib.Dec.{eqb}
 use lib.ListN.{length, getD, set, take, drop}
 use Rattle.std.specs.shelf.Lists.{All}
-use Rattle.std.proofs.shelf.Bits.{mul-add-lt}
-use Rattle.std.proofs.shelf.Elements.{all-getD, all-map, all-weaker}
+use Rattle.std.proofs.shelf.Elements.{all-getD, all-weaker}
 use Rattle.std.proofs.shelf.Lists.{length-append, length-drop, getD-append-left, take-all, drop-at, drop-drop}
 use Rattle.std.proofs.shelf.Tests.{cases-bool}
 use Rattle.rows.specs.Truth.{valuation, truths, trues}
-use Rattle.puzzles.specs.Lines.{Cell, Line, plain, taken, hits, variable-of, row-of, rows-from, slacks, board-values, slack-values}
+use Rattle.puzzles.specs.Lines.{Cell, Line, On, plain, taken, hits, variable-of, row-of, rows-from, slacks, board-values, slack-values}
 use Rattle.puzzles.specs.Boards.{Board, Lined, cells, vars, rows, encode}
 use Rattle.puzzles.proofs.Blocks.{length-board, board-at}
 use Rattle.puzzles.proofs.LineRows.{length-rows}
+use Rattle.puzzles.proofs.Narrow.{cells-narrow}
 use Rattle.puzzles.proofs.Slacks.{length-slack-values, row-count}
 use Rattle.puzzles.proofs.Writing.{write-next}
 
@@ -46,10 +47,6 @@ values-more : (a : List ℕ) (ls : List Line) (i : ℕ) → i < length ls → sl
 values-more a [] i h = absurd (omega arith)
 values-more a (l ∷ ls) zero h = append-nil (cond (l .slack) (eqb (hits a (l .cells)) 0 ∷ []) [])
 values-more a (l ∷ ls) (suc i) h = ap (λ xs. cond (l .slack) (eqb (hits a (l .cells)) 0 ∷ []) [] ++ xs) (values-more a ls i (omega arith)) ∙ sym (append-assoc (cond (l .slack) (eqb (hits a (l .cells)) 0 ∷ []) []) (slack-values a (take i ls)) _)
-
--- cells on the board are board variables
-cells-narrow : (size places : ℕ) (cs : List Cell) → All (λ c. (c .place < places) × (c .value < size)) cs → All (λ m. m / 2 < places * size) (map (λ c. 2 * variable-of size c) cs)
-cells-narrow size places cs k = all-map (λ m. m / 2 < places * size) (λ c. 2 * variable-of size c) cs (all-weaker _ _ (λ c i. let m = mul-add-lt (c .place) size (c .value) places (i .0) (i .1) in let q = mul-comm size places in omega arith) cs k)
 
 -- what is filled before row i
 abbrev front : Board → List ℕ → ℕ → List Bool
@@ -86,11 +83,10 @@ module _ (b : Board) (k : Lined b) (a : List ℕ) (before : List Bool) (room : v
   filled-length i = let n = front-length i in let m = slacks-few (b .lines) i in omega (arith, length-append (front b a i) (drop (next b i) before), length-drop (next b i) before)
 
   -- the board variables agree with the values
-  cell-agrees : (i : ℕ) (c : Cell) → (c .place < b .places) × (c .value < b .size) → valuation (filled b a before i) (variable-of (b .size) c) ≡ taken a c
+  cell-agrees : (i : ℕ) (c : Cell) → On (b .size) (b .places) c → valuation (filled b a before i) (variable-of (b .size) c) ≡ taken a c
   cell-agrees i c h =
       let n = front-length i in
-      let m = mul-add-lt (c .place) (b .size) (c .value) (b .places) (h .0) (h .1) in
-      let q = mul-comm (b .size) (b .places) in
+      let m = digits-lt (h .0) (h .1) in
       getD-append-left (front b a i) (drop (next b i) before) false (variable-of (b .size) c) (omega arith)
       ∙ (getD-append-left (board-values (b .size) (b .places) a) (slack-values a (take i (b .lines))) false (variable-of (b .size) c) (omega (arith, length-board (b .size) (b .places) a))
       ∙ board-at (b .size) (b .places) a (c .place) (c .value) (h .0) (h .1))
@@ -118,7 +114,7 @@ module _ (b : Board) (k : Lined b) (a : List ℕ) (before : List Bool) (room : v
       let l = line-at (b .lines) i in
       let ms = map (λ c. 2 * variable-of (b .size) c) (l .cells) in
       let inside = all-getD _ (b .lines) i (plain []) g (k .inside) in
-      let narrow = cells-narrow (b .size) (b .places) (l .cells) inside in
+      let narrow = cells-narrow (b .size) (b .places) (cells b) (l .cells) (omega arith) inside in
       let r = e ∙ row-at (b .size) (cells b) (b .lines) i g in
       ⊎-elim
       (λ (t : l .slack ≡ true).

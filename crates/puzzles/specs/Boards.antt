@@ -2,13 +2,13 @@
 use mathlib.Core.Path.{_≡_}
 use mathlib.Core.List.{List, _++_}
 use mathlib.Core.Bool.{Bool, true, _&&_}
-use Prim.Native.Nat.{ℕ, _+_, _*_, _<_}
+use Prim.Native.Nat.{ℕ, _+_, _*_}
 use lib.Dec.{eqb}
 use lib.ListN.{length}
 use Rattle.std.specs.shelf.Lists.{All}
 use Rattle.rows.specs.declared.kinds.Kind.the-variants.{Cover}
 use Rattle.rows.specs.Truth.{valuation, all-hold}
-use Rattle.puzzles.specs.Lines.{Line, all-met, place-lines, rows-from, slacks, board-values, slack-values, values-of}
+use Rattle.puzzles.specs.Lines.{Line, Inside, all-met, place-lines, rows-from, slacks, board-values, slack-values, values-of}
 
 pub record Board : Type 0 where
   -- values are 0 to size - 1
@@ -54,8 +54,8 @@ pub record Lined (b : Board) : Type 0 where
   -- first come the lines of the places
   pub rest : List Line
   pub starts : b .lines ≡ place-lines (b .size) (b .places) ++ rest
-  -- each cell is on the board
-  pub inside : All (λ l. All (λ c. (c .place < b .places) × (c .value < b .size)) (l .cells)) (b .lines)
+  -- every line lies on the board
+  pub inside : All (Inside (b .size) (b .places)) (b .lines)
   -- the answers are the lists of values that meet every line
   pub meets : (a : List ℕ) → b .answer a ≡ (eqb (length a) (b .places) && all-met a (b .lines))
 

@@ -1,11 +1,11 @@
 -- What puzzles have in common: values at places, and lines of cells of which one is taken.
 use mathlib.Core.List.{List, [], _∷_, _++_, map}
 use mathlib.Core.Bool.{Bool, true, false, cond, not, _&&_}
-use Prim.Native.Nat.{ℕ, _+_, _*_, _/_, _%_}
+use Prim.Native.Nat.{ℕ, _+_, _*_, _/_, _%_, _<_}
 use lib.Dec.{eqb, leb}
 use lib.ListN.{getD, take, drop}
 use Rattle.std.specs.Iters.{counting}
-use Rattle.std.specs.shelf.Lists.{leading}
+use Rattle.std.specs.shelf.Lists.{All, leading}
 use Rattle.rows.specs.Truth.{trues}
 
 -- a value at a place
@@ -26,6 +26,13 @@ plain cs = record { cells = cs; slack = false }
 
 abbrev pub slacked : List Cell → Line
 slacked cs = record { cells = cs; slack = true }
+
+-- a cell, and a line, on a board of so many places and values
+abbrev pub On : ℕ → ℕ → Cell → Type 0
+On size places c = (c .place < places) × (c .value < size)
+
+abbrev pub Inside : ℕ → ℕ → Line → Type 0
+Inside size places l = All (On size places) (l .cells)
 
 -- whether the values a, one for each place, have the cell's value at its place
 abbrev pub taken : List ℕ → Cell → Bool

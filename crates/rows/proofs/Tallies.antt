@@ -13,14 +13,14 @@ use Rattle.rows.specs.Kinds.{lengths}
 use Rattle.rows.specs.Truth.{trues}
 use Rattle.rows.specs.Bills.{rows-of-length, bill-of}
 
--- one truth value more
-pub trues-push : (ts : List Bool) (t : Bool) → trues (ts ++ t ∷ []) ≡ trues ts + cond t 1 0
-trues-push [] t = omega arith
-trues-push (s ∷ ts) t = let e = trues-push ts t in omega arith
+-- how many are true in two lists
+pub trues-append : (xs ys : List Bool) → trues (xs ++ ys) ≡ trues xs + trues ys
+trues-append [] ys = omega arith
+trues-append (x ∷ xs) ys = let e = trues-append xs ys in omega arith
 
 -- one row more counts at its own length
 rows-push : (rows : List (List ℕ)) (row : List ℕ) (k : ℕ) → rows-of-length (rows ++ row ∷ []) k ≡ rows-of-length rows k + cond (eqb (length row) k) 1 0
-rows-push rows row k = ap trues (map-push (λ (r : List ℕ). eqb (length r) k) rows row) ∙ trues-push (map (λ (r : List ℕ). eqb (length r) k) rows) (eqb (length row) k)
+rows-push rows row k = ap trues (map-push (λ (r : List ℕ). eqb (length r) k) rows row) ∙ (trues-append (map (λ (r : List ℕ). eqb (length r) k) rows) (eqb (length row) k ∷ []) ∙ omega arith)
 
 rows-few : (rows : List (List ℕ)) (k : ℕ) → rows-of-length rows k ≤ length rows
 rows-few [] k = omega arith

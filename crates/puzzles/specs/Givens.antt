@@ -1,11 +1,11 @@
 -- Givens: values that every answer has at a place.
 use mathlib.Core.List.{List, [], _∷_}
-use mathlib.Core.Bool.{Bool, true, cond, _&&_}
-use Prim.Native.Nat.{ℕ, _+_}
+use mathlib.Core.Bool.{Bool, true, _&&_}
+use Prim.Native.Nat.{ℕ}
 use lib.Dec.{eqb, ltb}
 use lib.ListN.{getD}
 use Rattle.std.specs.declared.option.Option.{Option}
-use Rattle.std.specs.declared.option.Option.the-variants.{Some, None}
+use Rattle.rows.specs.Firsts.{first-failing}
 use Rattle.puzzles.specs.declared.givens.Given.{Given}
 use Rattle.puzzles.specs.Lines.{Line, at, plain}
 
@@ -32,5 +32,4 @@ all-fit size places (g ∷ gs) = fits size places g && all-fit size places gs
 
 -- the index of the first given that is not, where the first has index i
 abbrev pub first-outside : ℕ → ℕ → ℕ → List Given → Option ℕ
-first-outside size places i [] = None
-first-outside size places i (g ∷ gs) = cond (fits size places g) (first-outside size places (i + 1) gs) (Some i)
+first-outside size places i gs = first-failing (fits size places) i gs

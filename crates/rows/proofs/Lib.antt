@@ -1,3 +1,4 @@
 pub mod Positions
 pub mod Tallies
 pub mod Wording
+pub mod Scans

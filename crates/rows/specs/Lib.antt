@@ -1,5 +1,6 @@
 pub mod Literals
 pub mod Kinds
+pub mod Firsts
 pub mod Truth
 pub mod Stops
 pub mod Judging

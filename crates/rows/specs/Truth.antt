@@ -5,8 +5,8 @@ use Prim.Native.Nat.{ℕ, _+_, _/_}
 use lib.Dec.{ltb}
 use lib.ListN.{getD}
 use Rattle.std.specs.declared.option.Option.{Option}
-use Rattle.std.specs.declared.option.Option.the-variants.{Some, None}
 use Rattle.rows.specs.declared.kinds.Kind.{Kind}
+use Rattle.rows.specs.Firsts.{first-failing}
 use Rattle.rows.specs.Literals.{truth-of}
 use Rattle.rows.specs.Kinds.{enough}
 
@@ -34,10 +34,8 @@ all-hold kind v (row ∷ rows) = holds kind v row && all-hold kind v rows
 
 -- the index of the first row that is not true, where the first row has index i
 abbrev pub first-false : Kind → (ℕ → Bool) → ℕ → List (List ℕ) → Option ℕ
-first-false kind v i [] = None
-first-false kind v i (row ∷ rows) = cond (holds kind v row) (first-false kind v (i + 1) rows) (Some i)
+first-false kind v i rows = first-failing (holds kind v) i rows
 
 -- the position of the first literal of variable n or more, in a row whose first position is i
 abbrev pub first-wide : ℕ → ℕ → List ℕ → Option ℕ
-first-wide n i [] = None
-first-wide n i (l ∷ row) = cond (ltb (l / 2) n) (first-wide n (i + 1) row) (Some i)
+first-wide n i row = first-failing (λ l. ltb (l / 2) n) i row

@@ -1,6 +1,11 @@
 // The judge of a row: how many of its positions are true, and whether that makes the row true.
 ghost use mathlib.Core.Path.{_≡_};
+ghost use Prim.Native.Nat.{_/_};
+ghost use lib.Dec.{ltb};
+ghost use lib.ListN.{length};
+ghost use Rattle.rows.specs.Firsts.{First};
 ghost use Rattle.rows.specs.Judging.{counted, judged, truth-in};
+ghost use Rattle.rows.specs.Truth.{first-wide};
 use crate::kinds::Kind;
 use crate::literals::Literal;
 use crate::literals::variable;
@@ -22,7 +27,8 @@ fn truth(values: &[bool], literal: Literal) -> Option<bool>
 // How many positions of a row are true, a repeated literal at each of its positions.
 // Stop 10 where the values do not reach a literal's variable, with the first such position.
 pub fn count_true(values: &[bool], row: &[Literal]) -> Result<usize, Fault>
-    ensures { λ r. ⌜ r ≡ counted (now (values .entry)) (now (row .entry)) ⌝ }
+    ensures value { λ r. ⌜ r ≡ counted (now (values .entry)) (now (row .entry)) ⌝ }
+    ensures first { λ _. ⌜ First (λ l. ltb (l / 2) (length (now (values .entry)))) (now (row .entry)) (first-wide (length (now (values .entry))) 0 (now (row .entry))) ⌝ }
 {
     let mut trues: usize = 0;
     for (i, literal) in row.iter().enumerate() {

@@ -13,13 +13,13 @@ pub enum Stop {
     Size(u64),
     // 2: more than 256 entries; how many
     Count(u64),
-    // 3: bytes that are no whole number of answers; how many
+    // 3: bytes or truth values that are not as many as they must be; how many
     Length(u64),
     // 4: the first entry out of range; its index
     Entry(u64),
-    // 5: a known answer that is none of the puzzle's; its index
+    // 5: an answer that is none of the puzzle's; its index
     Wrong(u64),
-    // 6: a known answer equal to an earlier one; its index
+    // 6: an answer equal to an earlier one; its index
     Twice(u64),
     // 7: the kind below does not fit; the depth
     Joint,

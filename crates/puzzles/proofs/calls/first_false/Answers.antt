@@ -1,8 +1,10 @@
+use borrow.Author.Needs.{needs}
 use native.Mathlib.Omega.{arith}
 use mathlib.Core.Path.{_≡_, refl, _∙_}
 use Prim.Native.Nat.{ℕ}
 use Rattle.rows.specs.Truth.{valuation}
 use Rattle.puzzles.specs.Boards.{rows}
+use Rattle.rows.proofs.Scans.{first-is-first}
 use Rattle.puzzles.proofs.Failing.{judged-board, false-step, false-found, false-none, failing-is}
 use Rattle.puzzles.proofs.Reading.{read-some, read-none, held-short}
 use Rattle.puzzles.proofs.calls.first_false.Needs as need
@@ -29,7 +31,8 @@ returns-then-not-holds g c =
     let j = judged-board b (c .lined .ensures) (c .args .values .now) n (c .loop-i .i) (c .literals .result .now) (r .0) (c .literals .ensures ∙ r .1) (rw (c .literals .ensures) (held-short (c .in-Some .row))) in
     let e = c .in-Continue-holds .was tt in
     let f = c .judge .ensures in
-    failing-is b (c .args .values .now) _ n (false-found (valuation (c .args .values .now)) (rows b) (c .loop-i .i) (c .literals .result .now) (r .0) (c .literals .ensures ∙ r .1) (cc) (c .loop-i .inv))
+    let found = false-found (valuation (c .args .values .now)) (rows b) (c .loop-i .i) (c .literals .result .now) (r .0) (c .literals .ensures ∙ r .1) (cc) (c .loop-i .inv) in
+    record { value = failing-is b (c .args .values .now) _ n found; first = first-is-first _ (rows b) }
 
 pub loop-i-again : need.loop-i-again
 loop-i-again g c =
@@ -48,4 +51,8 @@ loop-i-again g c =
 pub returns : need.returns
 returns g c =
     let b = g .P·Puzzle .board (c .args .puzzle .now) in
-    failing-is b (c .args .values .now) _ (c .if-values-vars .left ∙ c .vars .ensures) (false-none (valuation (c .args .values .now)) (rows b) (c .loop-i .i) (omega arith) (c .loop-i .inv))
+    let none = false-none (valuation (c .args .values .now)) (rows b) (c .loop-i .i) (omega arith) (c .loop-i .inv) in
+    record { value = failing-is b (c .args .values .now) _ (c .if-values-vars .left ∙ c .vars .ensures) none; first = first-is-first _ (rows b) }
+
+pub returns-then-values-vars : need.returns-then-values-vars
+returns-then-values-vars g c = record { value = search needs; first = first-is-first _ (rows (g .P·Puzzle .board (c .args .puzzle .now))) }

@@ -25,7 +25,7 @@ returns-then-slack-values c =
       slack = λ others s e h l k.
           let q = last-is (c .args .row .now) others (c .in-Some .others .now) (c .in-Some .last .now) s whole e in
           let v : c .variable-slack .result ≡ s = c .variable-slack .ensures ∙ q .1 in
-          let t : c .unwrap-or-trues .result ≡ trues (truths (valuation (c .args .values .now)) others) = c .unwrap-or-trues .ensures ∙ (ap (λ r. valueOr r 0) (c .count-true .ensures ∙ ap (counted (c .args .values .now)) (q .0)) ∙ others-count (c .args .cells) (c .args .values .now) others (omega arith) k) in
+          let t : c .unwrap-or-trues .result ≡ trues (truths (valuation (c .args .values .now)) others) = c .unwrap-or-trues .ensures ∙ (ap (λ r. valueOr r 0) (c .count-true .ensures .value ∙ ap (counted (c .args .values .now)) (q .0)) ∙ others-count (c .args .cells) (c .args .values .now) others (omega arith) k) in
           cc;
     }
 

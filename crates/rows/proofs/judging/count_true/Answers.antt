@@ -3,6 +3,7 @@ use mathlib.Core.Path.{sym, ap, subst, _∙_}
 use Prim.Native.Nat.{ℕ, _+_}
 use Rattle.std.proofs.shelf.Ways.{tells}
 use Rattle.std.specs.declared.result.Result.the-variants.{Err}
+use Rattle.rows.proofs.Scans.{first-is-first}
 use Rattle.rows.proofs.Positions.{Counting, counting-start, counting-step, counting-stop, counting-end}
 use Rattle.rows.proofs.judging.count_true.Needs as need
 use Rattle.rows.proofs.judging.count_true.Needs.{then-holds, else-holds}
@@ -20,9 +21,12 @@ loop-i-again c =
     ]
 
 pub returns : need.returns
-returns c = sym (counting-end (c .args .values .now) (c .args .row .now) (c .loop-i .i) (c .loop-i .trues) (omega arith) (c .loop-i .inv))
+returns c = record {
+  value = sym (counting-end (c .args .values .now) (c .args .row .now) (c .loop-i .i) (c .loop-i .trues) (omega arith) (c .loop-i .inv));
+  first = first-is-first _ (c .args .row .now);
+}
 
 pub returns-in-rest : need.returns-in-rest
 returns-in-rest c =
     let e = counting-stop (c .args .values .now) (c .args .row .now) (c .loop-i .i) (c .loop-i .trues) (omega arith) (sym (c .truth .ensures) ∙ c .in-rest .is) (c .loop-i .inv) in
-    ap Err (c .here .ensures) ∙ sym e
+    record { value = ap Err (c .here .ensures) ∙ sym e; first = first-is-first _ (c .args .row .now) }

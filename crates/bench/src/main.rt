@@ -1,5 +1,7 @@
 // Counts queens boards straight on the backtracker and says how much work that was. Each argument is a size; the script
 // bench/queens runs it on large boards and adds the seconds.
+#![tactic(auto)]
+
 use puzzles::{Puzzle, Queens, bill};
 use search::Backtracker;
 use std::env;

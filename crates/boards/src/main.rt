@@ -1,4 +1,6 @@
 // Tries boards whose figures were worked out another way: `reference/queens.py boards` prints what must come out.
+#![tactic(auto)]
+
 use anyhow::anyhow;
 use puzzles::{Given, Puzzle, Queens, bill, decode, encode};
 

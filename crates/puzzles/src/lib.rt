@@ -1,4 +1,6 @@
 // Puzzles as rows: what a puzzle is, the calls that are written once for all of them, and the puzzles themselves.
+#![tactic(auto)]
+
 mod boards;
 mod calls;
 mod checks;

@@ -1,4 +1,6 @@
 // Literals, rows, kinds and bills; when a row is true; and the numbered refusals of the whole library.
+#![tactic(auto)]
+
 mod bills;
 mod buffers;
 mod judging;

@@ -1,4 +1,6 @@
 // Final solvers: one store of rows in a workspace, and the backtracker over it.
+#![tactic(auto)]
+
 mod backtracker;
 mod judging;
 mod outcomes;

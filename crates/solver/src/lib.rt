@@ -1,4 +1,6 @@
 // What every solver means, ours or somebody else's: the trait Solver, and the checks that solvers share.
+#![tactic(auto)]
+
 mod checks;
 mod draws;
 mod solving;

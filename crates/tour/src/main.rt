@@ -1,5 +1,7 @@
 // A first look at the library: a queens board as rows, a right and a wrong filling judged, and an answer turned into
 // truth values and back.
+#![tactic(auto)]
+
 mod drawing;
 
 use anyhow::anyhow;

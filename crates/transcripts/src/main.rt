@@ -1,5 +1,7 @@
 // Plays lists of calls on the backtracker, one call a line of standard input, and prints what each is answered.
 // `reference/solver.py` prints what must come out, from the same lines.
+#![tactic(auto)]
+
 mod playing;
 
 use playing::Player;

@@ -7,7 +7,7 @@ use Rattle.rows.proofs.Tallies.{bill-none}
 use Rattle.puzzles.specs.Boards.{rows}
 use Rattle.puzzles.proofs.Reading.{read_some, read_none, held-short, tally-step, tally-fits}
 use Rattle.puzzles.proofs.calls.bill.Goals as goal
-use Rattle.puzzles.proofs.calls.bill.Goals.{in-Some, in-default}
+use Rattle.puzzles.proofs.calls.bill.Goals.{in-Some, in_default}
 
 pub overflow-add-bill : goal.overflow-add-bill
 overflow-add-bill g c =
@@ -25,7 +25,7 @@ loop-i-preserved g c =
           let r = read_some rs c.loop-i.i c.row.result w.in-Some.row c.row.ensures w.in-Some.is in
           let l : length w.literals.result.now ≤ longest = rw w.literals.ensures (held-short w.in-Some.row) in
           ap (λ (b : Bill). b.counts) w.bill-is ∙ tally-step rs c.loop-i.i c.loop-i.bill.counts w.literals.result.now r.0 (w.literals.ensures ∙ r.1) l c.loop-i.invariant
-      | in-default w ↦ read_none rs c.loop-i.i c.row.result (omega arith) c.row.ensures w.in-default.is
+      | in_default w ↦ read_none rs c.loop-i.i c.row.result (omega arith) c.row.ensures w.in_default.is
     ]
 
 pub returns : goal.returns

@@ -3,4 +3,4 @@ use Rattle.puzzles.proofs.Codes.{encode-done}
 use Rattle.puzzles.proofs.coding.encode.Goals as goal
 
 pub returns : goal.returns
-returns g c = encode-done (g.P.Puzzle.board c.args.puzzle.now) c.faithful.ensures c.args.answer.now c.args.values.now c.fill-all.new.values c.in-ok-check-fill.ensures.0 (sym c.is-answer.ensures ∙ c.if-not-is-answer.false) c.fill-all.ensures
+returns g c = encode-done (g.P.Puzzle.board c.args.puzzle.now) c.faithful.ensures c.args.answer.now c.args.values.now c.fill_all.new.values c.in_ok-check_fill.ensures.0 (sym c.is_answer.ensures ∙ c.if-not-is_answer.false) c.fill_all.ensures

@@ -6,10 +6,10 @@ use Rattle.rows.specs.Judging.{counted}
 use Rattle.puzzles.proofs.Lasts.{all-last, last-is, last-not, others-count}
 use Rattle.puzzles.proofs.coding.fill_slack.Goals as goal
 
-pub returns-in-default : goal.returns-in-default
-returns-in-default c = record {
+pub returns-in_default : goal.returns-in_default
+returns-in_default c = record {
   plain = λ k. refl;
-  slack = λ others s e h l k. last-not c.args.row.now others (2 * s) c.in-default.ensures.cases e;
+  slack = λ others s e h l k. last-not c.args.row.now others (2 * s) c.in_default.ensures.cases e;
 }
 
 pub returns-then-slack-values : goal.returns-then-slack-values
@@ -22,7 +22,7 @@ returns-then-slack-values c =
       slack = λ others s e h l k.
           let q = last-is c.args.row.now others c.in-Some.others.now c.in-Some.last.now s whole e in
           let v : c.variable-slack.result ≡ s = c.variable-slack.ensures ∙ q.1 in
-          let t : c.unwrap-or-trues.result ≡ trues (truths (valuation c.args.values.now) others) = c.unwrap-or-trues.ensures ∙ (ap (λ r. result_unwrap_or r 0) (c.count-true.ensures.value ∙ ap (counted c.args.values.now) q.0) ∙ others-count c.args.cells c.args.values.now others (omega arith) k) in
+          let t : c.unwrap_or-trues.result ≡ trues (truths (valuation c.args.values.now) others) = c.unwrap_or-trues.ensures ∙ (ap (λ r. result_unwrap_or r 0) (c.count_true.ensures.value ∙ ap (counted c.args.values.now) q.0) ∙ others-count c.args.cells c.args.values.now others (omega arith) k) in
           cc;
     }
 

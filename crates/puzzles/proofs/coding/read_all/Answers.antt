@@ -13,8 +13,8 @@ values-read xs before e f = rw (e, f)
 pub loop-place-init : goal.loop-place-init
 loop-place-init g c = refl
 
-pub slice-bounds-first-true-end : goal.slice-bounds-first-true-end
-slice-bounds-first-true-end g c =
+pub slice_bounds-first_true-end : goal.slice_bounds-first_true-end
+slice_bounds-first_true-end g c =
     let b = g.P.Puzzle.board c.args.puzzle.now in
     let n = c.requires.0 in
     let h = block-fits c.loop-place.place c.places-place-end.result c.size-size.result (length c.args.values.now) c.loop-place-test.true (board-fits b _ _ _ c.places-place-end.ensures c.size-size.ensures (omega arith)) in
@@ -24,14 +24,14 @@ pub overflow-cast-answer : goal.overflow-cast-answer
 overflow-cast-answer g c =
     let start = c.loop-place.place * c.size-size.result in
     let part = take (start + c.size-size.result - start) (drop start c.args.values.now) in
-    omega (arith, c.first-true.ensures, prefix_len-le-length not part, length-take (start + c.size-size.result - start) (drop start c.args.values.now))
+    omega (arith, c.first_true.ensures, prefix_len-le-length not part, length-take (start + c.size-size.result - start) (drop start c.args.values.now))
 
 pub loop-place-preserved : goal.loop-place-preserved
 loop-place-preserved g c =
     let start = c.loop-place.place * c.size-size.result in
     let f : ℕ → ℕ = λ p. prefix_len not (take c.size-size.result (drop (p * c.size-size.result) c.args.values.now)) in
     let k : start + c.size-size.result - start ≡ c.size-size.result = omega arith in
-    let e : c.first-true.result ≡ f c.loop-place.place = c.first-true.ensures ∙ ap (λ m. prefix_len not (take m (drop start c.args.values.now))) k in
+    let e : c.first_true.result ≡ f c.loop-place.place = c.first_true.ensures ∙ ap (λ m. prefix_len not (take m (drop start c.args.values.now))) k in
     let room = c.requires.1 in
     let p = c.places-place-end.ensures in
     (λ i. set (c.loop-place.invariant i) c.loop-place.place (e i)) ∙ written-more f c.args.answer.now c.loop-place.place 0 (omega arith)

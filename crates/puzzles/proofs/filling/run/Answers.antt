@@ -5,8 +5,8 @@ use Rattle.puzzles.proofs.filling.run.Goals as goal
 pub loop-k-init : goal.loop-k-init
 loop-k-init c = (c.new-row.ensures, omega arith)
 
-pub push-variable-requires : goal.push-variable-requires
-push-variable-requires c =
+pub push_variable-requires : goal.push_variable-requires
+push_variable-requires c =
     let l = ap length c.loop-k.invariant.0 ∙ length_run c.args.start c.args.step c.loop-k.-k in
     let m = variable-small c.args.start c.args.step c.args.count c.loop-k.-k c.loop-k.variable c.loop-k.invariant.1 c.loop-k-test.true in
     (omega arith, omega arith)
@@ -16,7 +16,7 @@ overflow-add-variable c = omega (arith, variable-small c.args.start c.args.step 
 
 pub loop-k-preserved : goal.loop-k-preserved
 loop-k-preserved c =
-    let e = run_more c.args.start c.args.step c.loop-k.-k c.loop-k.variable _ _ c.loop-k.invariant.0 c.loop-k.invariant.1 c.push-variable.ensures in
+    let e = run_more c.args.start c.args.step c.loop-k.-k c.loop-k.variable _ _ c.loop-k.invariant.0 c.loop-k.invariant.1 c.push_variable.ensures in
     (e, next-variable c.args.start c.args.step c.loop-k.-k c.loop-k.variable c.loop-k.invariant.1)
 
 pub returns : goal.returns

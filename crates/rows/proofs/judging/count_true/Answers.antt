@@ -23,7 +23,7 @@ returns c = record {
   first = first-is-first _ c.args.row.now;
 }
 
-pub returns-in-default : goal.returns-in-default
-returns-in-default c =
-    let e = counting-stop c.args.values.now c.args.row.now c.loop-i.i c.loop-i.trues (omega arith) (sym c.truth.ensures ∙ c.in-default.is) c.loop-i.invariant in
+pub returns-in_default : goal.returns-in_default
+returns-in_default c =
+    let e = counting-stop c.args.values.now c.args.row.now c.loop-i.i c.loop-i.trues (omega arith) (sym c.truth.ensures ∙ c.in_default.is) c.loop-i.invariant in
     record { value = ap Err c.here.ensures ∙ sym e; first = first-is-first _ c.args.row.now }

@@ -6,7 +6,7 @@ use Rattle.puzzles.proofs.queens.Queens.make.Goals as goal
 
 pub invariant-of-self : goal.invariant-of-self
 invariant-of-self c =
-    let e = outside-fit c.args.size c.args.size 0 c.args.givens.now c.in-default.ensures in
+    let e = outside-fit c.args.size c.args.size 0 c.args.givens.now c.in_default.ensures in
     (grind (arith, nat_tests), tt)
 
 pub returns-then-size-lt1 : goal.returns-then-size-lt1

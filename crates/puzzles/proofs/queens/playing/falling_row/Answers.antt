@@ -16,8 +16,8 @@ run-row-requires-else-d-n c =
     let q = mul-le c.args.d (c.args.n + 1) largest (largest + 1) (omega arith) (omega arith) in
     (omega arith, omega arith)
 
-pub push-variable-requires : goal.push-variable-requires
-push-variable-requires c =
+pub push_variable-requires : goal.push_variable-requires
+push_variable-requires c =
     let n = c.args.n in
     let d = c.args.d in
     elim c.if-d-n.branch [
@@ -35,7 +35,7 @@ returns c =
     let d = c.args.d in
     let s = c.args.slack in
     let end : List ℕ → List ℕ = λ xs. xs ++ (2 * s) ∷ [] in
-    c.push-variable.ensures
+    c.push_variable.ensures
     ∙ elim c.if-d-n.branch [
       | then-d-n w ↦ ap end (ap held w.row-is ∙ w.run-row.ensures) ∙ sym (falling-high n d s w.if-d-n.true (omega arith))
       | else-d-n w ↦ ap end (ap held w.row-is ∙ w.run-row-else-d-n.ensures) ∙ sym (falling-low n d s w.if-d-n.false)

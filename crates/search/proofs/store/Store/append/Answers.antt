@@ -2,16 +2,16 @@ use Rattle.std.proofs.Common.{refl, arith, rules}
 use Rattle.search.proofs.Appending.{row_fits, count_fits, append-formed, append-room, append-stored}
 use Rattle.search.proofs.store.Store.append.Goals as goal
 
-pub write-row-requires : goal.write-row-requires
-write-row-requires c = row_fits c.args.self.now c.args.row.now c.requires
+pub write_row-requires : goal.write_row-requires
+write_row-requires c = row_fits c.args.self.now c.args.row.now c.requires
 
 pub overflow-add-self-3 : goal.overflow-add-self-3
 overflow-add-self-3 c = let h = count_fits c.args.self.now in search rules
 
 pub invariant-of-self : goal.invariant-of-self
 invariant-of-self c = (
-  append-formed c.args.self.now c.args.row.now c.requires c.write-row.new.work.items (search rules) c.write-row.ensures.items,
-  (let h = append-room c.args.self.now c.args.row.now c.requires in omega (arith, c.write-row.ensures.len), (c.args.self.now.narrow, tt)),
+  append-formed c.args.self.now c.args.row.now c.requires c.write_row.new.work.items (search rules) c.write_row.ensures.items,
+  (let h = append-room c.args.self.now c.args.row.now c.requires in omega (arith, c.write_row.ensures.len), (c.args.self.now.narrow, tt)),
 )
 
 pub returns : goal.returns
@@ -19,6 +19,6 @@ returns c = record {
   kind = refl;
   vars = refl;
   owed = refl;
-  rows = append-stored c.args.self.now c.args.row.now c.requires c.write-row.new.work.items (search rules) c.write-row.ensures.items;
-  work = c.write-row.ensures.len;
+  rows = append-stored c.args.self.now c.args.row.now c.requires c.write_row.new.work.items (search rules) c.write_row.ensures.items;
+  work = c.write_row.ensures.len;
 }

@@ -9,8 +9,8 @@ use Rattle.puzzles.proofs.Reading.{read_some, read_none, held-short, tally-step,
 use Rattle.puzzles.proofs.calls.bill.Goals as goal
 use Rattle.puzzles.proofs.calls.bill.Goals.{in-Some, in_default}
 
-pub overflow-add-bill : goal.overflow-add-bill
-overflow-add-bill g c =
+pub overflow_add-bill : goal.overflow_add-bill
+overflow_add-bill g c =
     let l : length c.literals.result.now ≤ longest = rw c.literals.ensures (held-short c.in-Some.row) in
     omega (arith, tally-fits (rows (g.P.Puzzle.board c.args.puzzle.now)) c.loop-i.i (length c.literals.result.now) c.loop-i.bill.counts l c.loop-i.invariant)
 

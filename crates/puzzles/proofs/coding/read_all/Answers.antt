@@ -20,8 +20,8 @@ slice_bounds-first_true-end g c =
     let h = block-fits c.loop-place.place c.places-place-end.result c.size-size.result (length c.args.values.now) c.loop-place-test.true (board-fits b _ _ _ c.places-place-end.ensures c.size-size.ensures (omega arith)) in
     omega arith
 
-pub overflow-cast-answer : goal.overflow-cast-answer
-overflow-cast-answer g c =
+pub overflow_cast-answer : goal.overflow_cast-answer
+overflow_cast-answer g c =
     let start = c.loop-place.place * c.size-size.result in
     let part = take (start + c.size-size.result - start) (drop start c.args.values.now) in
     omega (arith, c.first_true.ensures, prefix_len-le-length not part, length-take (start + c.size-size.result - start) (drop start c.args.values.now))

@@ -5,4 +5,4 @@ use Rattle.puzzles.proofs.filling.run.Given as goal
 
 -- the row is the run so far, and the variable is the next of it
 abbrev pub invariant-loop-k : goal.invariant-loop-k
-invariant-loop-k l = (held l.row ≡ run_of l.start l.step l.-k) × (l.variable ≡ l.start + l.-k * l.step)
+invariant-loop-k l = (held l.row ≡ run_of l.start l.step l._k) × (l.variable ≡ l.start + l._k * l.step)

@@ -4,10 +4,10 @@ use Rattle.rows.proofs.Scans.{first-is-first}
 use Rattle.puzzles.proofs.GivenScans.{outside-fit}
 use Rattle.puzzles.proofs.queens.Queens.make.Goals as goal
 
-pub invariant-of-self : goal.invariant-of-self
-invariant-of-self c =
+pub invariant_of-self : goal.invariant_of-self
+invariant_of-self c =
     let e = outside-fit c.args.size c.args.size 0 c.args.givens.now c.in_default.ensures in
-    (grind (arith, nat_tests), tt)
+    record { made = grind (arith, nat_tests) }
 
 pub returns-then-size-lt1 : goal.returns-then-size-lt1
 returns-then-size-lt1 c = record { makes = search rules; first = first-is-first _ c.args.givens.now }

@@ -17,7 +17,7 @@ loop-len-preserved g c = λ p.
             | then-any+in_ok-write_str w' ↦ simp (w'.f-is, w'.if-any.true) (w'.in_ok-write_str.ensures.writes part.put.plain refl)
             | else-any w' ↦ simp (w'.f-is, w'.if-any.false) (put-none part.put.plain)
           ] in
-          simp (w.f-is, w.any-is) (part-more part w.write.new.self lt w.if-count-gt0.true due (w.in_ok-write.ensures.shows due.plain refl))
+          simp (w.f-is, w.any-is) (part-more part w.write.new.self lt w.if-count-gt0.true due (w.in_ok-write.ensures.writes due.plain refl))
       | else-count-gt0 w ↦ simp (w.f-is, w.any-is) (part-zero part lt (omega arith))
     ]
 

@@ -5,14 +5,15 @@ use Rattle.search.proofs.store.Store.append.Goals as goal
 pub write_row-requires : goal.write_row-requires
 write_row-requires c = row_fits c.args.self.now c.args.row.now c.requires
 
-pub overflow-add-self-3 : goal.overflow-add-self-3
-overflow-add-self-3 c = let h = count_fits c.args.self.now in search rules
+pub overflow_add-self-3 : goal.overflow_add-self-3
+overflow_add-self-3 c = let h = count_fits c.args.self.now in search rules
 
-pub invariant-of-self : goal.invariant-of-self
-invariant-of-self c = (
-  append-formed c.args.self.now c.args.row.now c.requires c.write_row.new.work.items (search rules) c.write_row.ensures.items,
-  (let h = append-room c.args.self.now c.args.row.now c.requires in omega (arith, c.write_row.ensures.len), (c.args.self.now.narrow, tt)),
-)
+pub invariant_of-self : goal.invariant_of-self
+invariant_of-self c = record {
+  formed = append-formed c.args.self.now c.args.row.now c.requires c.write_row.new.work.items (search rules) c.write_row.ensures.items;
+  room = (let h = append-room c.args.self.now c.args.row.now c.requires in omega (arith, c.write_row.ensures.len));
+  narrow = c.args.self.now.narrow;
+}
 
 pub returns : goal.returns
 returns c = record {

@@ -100,6 +100,10 @@ NAMES["board-vars"] = "board_vars"
 NAMES["◌then-if◌"] = "◌then_if◌"
 NAMES["then-if"] = "then_if"
 
+# the library's own `All` goes by index, and the gate wants its name for it alone
+ALIAS = "AllByRecursion as All"
+ALL = re.compile(r"(?<![\w'◌-])All(?![\w'◌-])")
+
 WORD = re.compile(r"(?<![\w'◌-])[A-Za-z◌][\w'◌]*(?:-[\w'◌]+)+")
 COMMENT = {".antt": "--", ".rt": "//"}
 
@@ -110,6 +114,12 @@ def respelled(line, ending):
     parts = re.split(r'("(?:[^"\\\\]|\\\\.)*")', code)
     parts[::2] = [WORD.sub(lambda m: NAMES.get(m.group(), m.group()), p) for p in parts[::2]]
     return "".join(parts) + mark + comment
+
+
+def unaliased(text):
+    if ALIAS not in text:
+        return text
+    return ALL.sub("AllByRecursion", text.replace(ALIAS, "AllByRecursion"))
 
 
 def main():
@@ -123,7 +133,7 @@ def main():
             path = os.path.join(folder, name)
             with open(path, encoding="utf-8") as file:
                 old = file.read()
-            new = "\n".join(respelled(line, ending) for line in old.split("\n"))
+            new = unaliased("\n".join(respelled(line, ending) for line in old.split("\n")))
             if new != old:
                 with open(path, "w", encoding="utf-8") as file:
                     file.write(new)

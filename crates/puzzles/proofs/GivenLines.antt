@@ -1,6 +1,6 @@
 -- The lines of givens.
 use Rattle.std.proofs.Common.{◌≡◌, ℕ, true, ltb, List, [], ◌∷◌, map, refl, arith}
-use Rattle.std.specs.List.{AllByRecursion as All}
+use Rattle.std.specs.List.{AllByRecursion}
 use Rattle.std.proofs.lemmas.Bool.{and_parts, ltb-true}
 use Rattle.std.proofs.lemmas.Bool.Decides.{nat_tests}
 use Rattle.puzzles.specs.declared.givens.Given.{Given}
@@ -13,7 +13,7 @@ given-lines-met a [] = refl
 given-lines-met a (g ∷ gs) = let e = given-lines-met a gs in grind (arith, nat_tests)
 
 -- givens that fit are on the board
-pub given-lines-inside : (size places : ℕ) (gs : List Given) → all_fit size places gs ≡ true → All (Inside size places) (map given_line gs)
+pub given-lines-inside : (size places : ℕ) (gs : List Given) → all_fit size places gs ≡ true → AllByRecursion (Inside size places) (map given_line gs)
 given-lines-inside size places [] e = tt
 given-lines-inside size places (g ∷ gs) e =
     let p = and_parts (fits size places g) (all_fit size places gs) e in

@@ -1,6 +1,6 @@
 -- The lines of queens say what an answer is.
 use Rattle.std.proofs.Common.{◌≡◌, ℕ, ◌+◌, ◌-◌, ◌*◌, ◌<◌, Bool, true, not, ◌&&◌, eqb, ltb, leb, List, ◌++◌, map, length, get_or, sym, refl, ap, ◌∙◌, arith}
-use Rattle.std.specs.List.{range_with_len, AllByRecursion as All}
+use Rattle.std.specs.List.{range_with_len, AllByRecursion}
 use Rattle.std.proofs.ByRecursion.{All-append, all_kept_by}
 use Rattle.std.proofs.lemmas.Bool.{and_parts, and_from, eqb-true, ltb-true}
 use Rattle.std.proofs.lemmas.Bool.Decides.{nat_tests}
@@ -17,11 +17,11 @@ use Rattle.puzzles.proofs.DiagonalCells.{falling-cells, rising-cells}
 use Rattle.puzzles.proofs.GivenLines.{given-lines-met, given-lines-inside}
 
 -- every cell is on the board
-all-on : (n : ℕ) → All (On n n) (all_cells n)
-all-on n = all-joined (On n n) (λ p. map (at p) (range_with_len 0 n)) (range_with_len 0 n) (all-counting (λ p. All (On n n) (map (at p) (range_with_len 0 n))) 0 n (λ p l u. place-on n n p (omega arith)))
+all-on : (n : ℕ) → AllByRecursion (On n n) (all_cells n)
+all-on n = all-joined (On n n) (λ p. map (at p) (range_with_len 0 n)) (range_with_len 0 n) (all-counting (λ p. AllByRecursion (On n n) (map (at p) (range_with_len 0 n))) 0 n (λ p l u. place-on n n p (omega arith)))
 
 -- and so are the lines
-lines-inside : (n : ℕ) (gs : List Given) → all_fit n n gs ≡ true → All (Inside n n) (queens_lines n gs)
+lines-inside : (n : ℕ) (gs : List Given) → all_fit n n gs ≡ true → AllByRecursion (Inside n n) (queens_lines n gs)
 lines-inside n gs e =
     let P = Inside n n in
     let r = map (rising n) (range_with_len 1 (2 * n - 3)) ++ map given_line gs in

@@ -1,7 +1,7 @@
 -- What the rows of lines say: that the lines are met, and which values the slack variables have.
 use Rattle.std.proofs.Common.{◌≡◌, ℕ, zero, suc, ◌+◌, ◌*◌, ◌<◌, Bool, true, false, cond, ◌&&◌, eqb, leb, List, [], ◌∷◌, ◌++◌, map, length, get_or, refl, ap, ◌∙◌, add-zero, arith}
 use mathlib.Core.Bool.{beq}
-use Rattle.std.specs.List.{AllByRecursion as All}
+use Rattle.std.specs.List.{AllByRecursion}
 use Rattle.std.proofs.ByRecursion.{All-from_get_or}
 use Rattle.std.proofs.lemmas.Bool.{and_parts, eqb-true}
 use Rattle.std.proofs.lemmas.Bool.Decides.{nat_tests}
@@ -45,7 +45,7 @@ length-slack_values a (l ∷ ls) =
     elim l.slack as (λ b. length (cond b (eqb (hits a l.cells) 0 ∷ []) [] ++ slack_values a ls) ≡ cond b 1 0 + slacks ls) [ true ↦ omega arith | false ↦ omega arith ]
 
 -- how many positions are true in a row that begins with cells, where f gives each cell's variable the truth g
-count-cells : (size : ℕ) (f : ℕ → Bool) (g : Cell → Bool) (cs : List Cell) (rest : List ℕ) → All (λ c. f (variable_of size c) ≡ g c) cs → trues (truths f (map (λ c. 2 * variable_of size c) cs ++ rest)) ≡ trues (map g cs) + trues (truths f rest)
+count-cells : (size : ℕ) (f : ℕ → Bool) (g : Cell → Bool) (cs : List Cell) (rest : List ℕ) → AllByRecursion (λ c. f (variable_of size c) ≡ g c) cs → trues (truths f (map (λ c. 2 * variable_of size c) cs ++ rest)) ≡ trues (map g cs) + trues (truths f rest)
 count-cells size f g [] rest k = omega arith
 count-cells size f g (c ∷ cs) rest k = rw (truth_of-variable f (variable_of size c), k.0, count-cells size f g cs rest k.1) (omega arith)
 
@@ -55,7 +55,7 @@ count-slack f s true = rw (truth_of-variable f s) (omega arith)
 count-slack f s false = refl
 
 -- how many positions of a line's row are true: the cells taken, and the slack
-pub row_count : (size s : ℕ) (f : ℕ → Bool) (a : List ℕ) (l : Line) → All (λ c. f (variable_of size c) ≡ taken a c) l.cells → trues (truths f (row_of size s l)) ≡ hits a l.cells + cond l.slack (cond (f s) 1 0) 0
+pub row_count : (size s : ℕ) (f : ℕ → Bool) (a : List ℕ) (l : Line) → AllByRecursion (λ c. f (variable_of size c) ≡ taken a c) l.cells → trues (truths f (row_of size s l)) ≡ hits a l.cells + cond l.slack (cond (f s) 1 0) 0
 row_count size s f a l k = count-cells size f (taken a) l.cells (cond l.slack (2 * s ∷ []) []) k ∙ ap (λ n. hits a l.cells + n) (count-slack f s l.slack)
 
 -- one row: the line is met and its slack, if it has one, is true where no cell is taken
@@ -65,7 +65,7 @@ one-row f s n false rest xs = simp add-zero (grind (arith, nat_tests))
 
 -- f gives the variables of all cells of the lines the truth that the values a do
 abbrev pub Agrees : ℕ → (ℕ → Bool) → List ℕ → List Line → Type 0
-Agrees size f a ls = All (λ l. All (λ c. f (variable_of size c) ≡ taken a c) l.cells) ls
+Agrees size f a ls = AllByRecursion (λ l. AllByRecursion (λ c. f (variable_of size c) ≡ taken a c) l.cells) ls
 
 -- then the rows are true exactly when the lines are met and the slacks have their values
 pub rows-exact : (size s : ℕ) (f : ℕ → Bool) (a : List ℕ) (ls : List Line) → Agrees size f a ls → all_hold Cover f (rows_from size s ls) ≡ (all_met a ls && gives f s (slack_values a ls))
@@ -75,14 +75,14 @@ rows-exact size s f a (l ∷ ls) k =
     (one-row f s (hits a l.cells) l.slack (all_met a ls) (slack_values a ls))
 
 -- where the lines are met, one cell of each place is taken
-pub places-met : (size : ℕ) (a ps : List ℕ) (rest : List Line) → all_met a (map (λ p. plain (cells_of size p)) ps ++ rest) ≡ true → All (λ p. hits a (cells_of size p) ≡ 1) ps
+pub places-met : (size : ℕ) (a ps : List ℕ) (rest : List Line) → all_met a (map (λ p. plain (cells_of size p)) ps ++ rest) ≡ true → AllByRecursion (λ p. hits a (cells_of size p) ≡ 1) ps
 places-met size a [] rest e = tt
 places-met size a (p ∷ ps) rest e =
     let both = and_parts (eqb (hits a (cells_of size p)) 1) _ e in
     (eqb-true _ 1 both.0, places-met size a ps rest both.1)
 
 -- where the rows are true, one variable of each place is
-pub places-hold : (size s : ℕ) (f : ℕ → Bool) (ps : List ℕ) (rest : List Line) → all_hold Cover f (rows_from size s (map (λ p. plain (cells_of size p)) ps ++ rest)) ≡ true → All (λ p. trues (map (λ c. f (variable_of size c)) (cells_of size p)) ≡ 1) ps
+pub places-hold : (size s : ℕ) (f : ℕ → Bool) (ps : List ℕ) (rest : List Line) → all_hold Cover f (rows_from size s (map (λ p. plain (cells_of size p)) ps ++ rest)) ≡ true → AllByRecursion (λ p. trues (map (λ c. f (variable_of size c)) (cells_of size p)) ≡ 1) ps
 places-hold size s f [] rest e = tt
 places-hold size s f (p ∷ ps) rest e =
     let cs = cells_of size p in

@@ -1,12 +1,12 @@
 -- Lists of which no two are equal.
 use Rattle.std.proofs.Common.{◌≡◌, Bool, true, false, cond, List, [], ◌∷◌, ◌++◌, map, filter, sym, refl, ap, ◌∙◌, subst, ⊎_elim, true≢false}
 use mathlib.Core.List.{Memᴰ}
-use Rattle.std.specs.List.{AllByRecursion as All}
+use Rattle.std.specs.List.{AllByRecursion}
 use Rattle.std.proofs.lemmas.Bool.{cases_Bool}
 use Rattle.solver.specs.Laws.{Apart}
 
 module _ {X : Type 0} where
-  pub all-at : (P : X → Type 0) (xs : List X) {x : X} → All P xs → Memᴰ x xs → P x
+  pub all-at : (P : X → Type 0) (xs : List X) {x : X} → AllByRecursion P xs → Memᴰ x xs → P x
   all-at P [] a m = absurd (mathlib.Core.List.Memᴰ.not-nil m)
   all-at P (y ∷ xs) {x} a m = ⊎_elim (λ (e : x ≡ y). subst P (sym e) a.0) (λ (k : Memᴰ x xs). all-at P xs a.1 k) (mathlib.Core.List.Memᴰ.cases_cons m)
 

@@ -1,14 +1,14 @@
 -- Lists of which no two elements are equal, and how many elements they have.
 use Rattle.std.proofs.Common.{◌≡◌, ◌≤◌, List, [], ◌∷◌, ◌++◌, map, length, sym, refl, ap, ◌∙◌, subst, ⊎_elim, arith}
 use mathlib.Core.List.{Memᴰ}
-use Rattle.std.specs.List.{AllByRecursion as All}
+use Rattle.std.specs.List.{AllByRecursion}
 use Rattle.std.proofs.ByRecursion.{All-weaker, All-map}
 use Rattle.std.proofs.lemmas.List.{length-append, length-map}
 use Rattle.solver.specs.Laws.{Apart}
 use Rattle.solver.proofs.Aparts.{all-at, apart-map}
 
 -- what holds of each holds of all
-pub all-from-mem : {X : Type 0} (P : X → Type 0) (xs : List X) → ((x : X) → Memᴰ x xs → P x) → All P xs
+pub all-from-mem : {X : Type 0} (P : X → Type 0) (xs : List X) → ((x : X) → Memᴰ x xs → P x) → AllByRecursion P xs
 all-from-mem P [] f = tt
 all-from-mem P (x ∷ xs) f = (f x (mathlib.Core.List.Memᴰ.head refl), all-from-mem P xs (λ y m. f y (mathlib.Core.List.Memᴰ.tail m)))
 
@@ -30,7 +30,7 @@ other-stays x y before after m ne =
     (mathlib.Core.List.Memᴰ.append_cases before m)
 
 -- distinct elements of a list are no more than it has
-apart-few : {X : Type 0} (xs ys : List X) → Apart xs → All (λ x. Memᴰ x ys) xs → length xs ≤ length ys
+apart-few : {X : Type 0} (xs ys : List X) → Apart xs → AllByRecursion (λ x. Memᴰ x ys) xs → length xs ≤ length ys
 apart-few [] ys d k = omega arith
 apart-few {X} (x ∷ xs) ys d k =
     let s = split_at x ys k.0 in
@@ -41,13 +41,13 @@ apart-few {X} (x ∷ xs) ys d k =
     omega (arith, length-append s.0 s.1, length-append s.0 (x ∷ s.1))
 
 -- a map that can be undone keeps elements distinct
-pub apart-undone : {X Y : Type 0} (f : X → Y) (g : Y → X) (xs : List X) → All (λ x. g (f x) ≡ x) xs → Apart xs → Apart (map f xs)
+pub apart-undone : {X Y : Type 0} (f : X → Y) (g : Y → X) (xs : List X) → AllByRecursion (λ x. g (f x) ≡ x) xs → Apart xs → Apart (map f xs)
 apart-undone {X} f g xs k d =
     let back : (x : X) → Memᴰ x xs → g (f x) ≡ x = λ x m. all-at (λ z. g (f z) ≡ z) xs k m in
     apart-map f xs (λ x y m n e. sym (back x m) ∙ (ap g e ∙ back y n)) d
 
 -- distinct elements that such a map takes into a list are no more than it has
-pub matched-few : {X Y : Type 0} (f : X → Y) (g : Y → X) (xs : List X) (ys : List Y) → Apart xs → All (λ x. (g (f x) ≡ x) × Memᴰ (f x) ys) xs → length xs ≤ length ys
+pub matched-few : {X Y : Type 0} (f : X → Y) (g : Y → X) (xs : List X) (ys : List Y) → Apart xs → AllByRecursion (λ x. (g (f x) ≡ x) × Memᴰ (f x) ys) xs → length xs ≤ length ys
 matched-few f g xs ys d k =
     let apart = apart-undone f g xs (All-weaker _ (λ x. g (f x) ≡ x) (λ x p. p.0) xs k) d in
     let few = apart-few (map f xs) ys apart (All-map (λ y. Memᴰ y ys) f xs (All-weaker _ (λ x. Memᴰ (f x) ys) (λ x p. p.1) xs k)) in

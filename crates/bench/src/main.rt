@@ -1,5 +1,4 @@
-// Counts queens boards straight on the backtracker and says how much work that was. Each argument is a size; the script
-// bench/queens runs it on large boards and adds the seconds.
+// Counts queens boards straight on the backtracker and says how much work that was. Each argument is a size.
 #![tactic(auto)]
 
 use puzzles::{Puzzle, Queens, bill};

@@ -2,7 +2,8 @@
 #![tactic(auto)]
 
 use anyhow::anyhow;
-use puzzles::{Given, Puzzle, Queens, bill, decode, encode};
+use itertools::Itertools;
+use puzzles::{Given, Puzzle, Queens, bill, decode, encode, rows_of};
 
 #[cfg(test)]
 mod tests;
@@ -54,10 +55,7 @@ fn show_size<P: Puzzle>(rt: &HostRuntime, puzzle: &P, givens: usize) -> anyhow::
 }
 
 fn show_rows<P: Puzzle>(rt: &HostRuntime, puzzle: &P) -> anyhow::Result<()> {
-    for i in 0..puzzle.rows() {
-        let Some(row) = puzzle.row(i) else {
-            return Err(anyhow!("a row is missing"));
-        };
+    for row in rows_of(puzzle) {
         show_row(rt, row.literals())?;
     }
     if puzzle.row(puzzle.rows()).is_some() {
@@ -67,11 +65,8 @@ fn show_rows<P: Puzzle>(rt: &HostRuntime, puzzle: &P) -> anyhow::Result<()> {
 }
 
 fn show_row(rt: &HostRuntime, literals: &[u16]) -> anyhow::Result<()> {
-    print!(rt; "  row")?;
-    for literal in literals {
-        print!(rt; " {literal}")?;
-    }
-    println!(rt; "")?;
+    let literals = literals.iter().format(rt.alloc(), " ")?;
+    println!(rt; "  row {literals}")?;
     Ok(())
 }
 
@@ -110,14 +105,8 @@ fn show_answer<P: Puzzle>(rt: &HostRuntime, puzzle: &P, answer: &[u8]) -> anyhow
     encode(puzzle, answer, values.as_mut_slice())?;
     let mut back = vec![in rt.alloc(); 0u8; puzzle.places()]?;
     decode(puzzle, values.as_slice(), back.as_mut_slice())?;
-    print!(rt; "  answer")?;
-    for value in back.as_slice() {
-        print!(rt; " {value}")?;
-    }
-    print!(rt; " = ")?;
-    for value in values.as_slice() {
-        print!(rt; "{}", u8::from(*value))?;
-    }
-    println!(rt; "")?;
+    let back = back.iter().format(rt.alloc(), " ")?;
+    let values = values.iter().copied().map(u8::from).format(rt.alloc(), "")?;
+    println!(rt; "  answer {back} = {values}")?;
     Ok(())
 }

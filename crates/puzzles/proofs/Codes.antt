@@ -16,10 +16,6 @@ encode-done b k a before after f h w =
     let law = k.encodes a h in
     (rw (f, h), record { written = w; solves = law.0; back = law.1 })
 
--- what is no answer is refused
-pub encode-wrong : (b : Board) (a : List ℕ) (m : ℕ) → fill_stop b (length a) m ≡ None → b.answer a ≡ false → encode_stop b a m ≡ Some (here (Wrong 0))
-encode-wrong b a m f h = rw (f, h)
-
 -- a search for a row that is not true says whether all are
 none-false : (v : ℕ → Bool) (i : ℕ) (rs : List (List ℕ)) → is_some (first_false Cover v i rs) ≡ not (all_hold Cover v rs)
 none-false v i [] = refl

@@ -8,14 +8,8 @@ pub mod Reading
 pub mod Writing
 pub mod Lasts
 pub mod SlackSteps
-pub mod Every
-pub mod Hits
-pub mod Insides
-pub mod GivenLines
+pub mod Chains
 pub mod GivenScans
-pub mod Times
-pub mod DiagonalCells
-pub mod QueensLined
 pub mod Runs
 pub mod LineRows
 pub mod QueensRows

@@ -1,25 +1,17 @@
 -- The rows of queens, one section after the other.
-use Rattle.std.proofs.Common.{◌≡◌, ℕ, ◌+◌, ◌-◌, ◌*◌, ◌<◌, ◌≤◌, true, false, ◌&&◌, leb, List, [], ◌∷◌, ◌++◌, map, length, get_or, Some, None, refl, ap, ◌∙◌, add-zero, arith}
+use Rattle.std.proofs.Common.{◌≡◌, ℕ, ◌+◌, ◌-◌, ◌*◌, ◌<◌, ◌≤◌, true, false, List, [], ◌∷◌, ◌++◌, map, length, get_or, Some, None, refl, ap, ◌∙◌, add-zero, arith}
 use Rattle.std.specs.Option.{option_map}
 use Rattle.std.specs.List.{range_with_len, slice_get}
 use Rattle.std.proofs.lemmas.List.FromFn.{length-map-range_with_len}
 use Rattle.std.proofs.lemmas.List.{length-append, length-map}
 use Rattle.std.proofs.lemmas.Option.{slice_get_read, slice_get_past}
-use Rattle.std.proofs.lemmas.Bool.{and_parts, leb-true}
 use Rattle.puzzles.specs.declared.givens.Given.{Given}
 use Rattle.puzzles.specs.Lines.{Line, at, plain, row_of, rows_from}
 use Rattle.puzzles.specs.Boards.{rows, vars}
-use Rattle.puzzles.specs.Givens.{most_entries, given_line, all_fit}
-use Rattle.puzzles.specs.Queens.{column, falling, rising, queens_lines, queens, largest, makeable}
+use Rattle.puzzles.specs.Givens.{given_line}
+use Rattle.puzzles.specs.Queens.{column, falling, rising, queens_lines, queens}
 use Rattle.puzzles.proofs.LineRows.{length-rows, slacks-append, slacks-givens, nth-givens, slacks-alike, nth-alike, nth_after}
 use Rattle.puzzles.proofs.Runs.{run_of, place-run, column-run}
-
--- the size of a puzzle that can be made
-pub size-range : (n : ℕ) (gs : List Given) → makeable n gs ≡ true → (1 ≤ n) × (n ≤ largest)
-size-range n gs e =
-    let p = and_parts (leb 1 n) (leb n largest && (leb (length gs) most_entries && all_fit n n gs)) e in
-    let q = and_parts (leb n largest) (leb (length gs) most_entries && all_fit n n gs) p.1 in
-    (leb-true 1 n p.0, leb-true n largest q.0)
 
 -- the line of a board row
 abbrev place : ℕ → ℕ → Line
@@ -70,8 +62,8 @@ module _ (n : ℕ) (gs : List Given) where
   past-falling i j w l e f h = past-columns i l ∙ nth_after (falling n) true (λ k. refl) n (n * n) 2 (2 * n - 3) _ (i - 2 * n) (n * n + w) (j - w) (omega arith) (omega arith)
 
   -- the rising ones come next
-  pub queens-rising : (i j w : ℕ) → 2 * n ≤ i → i - 2 * n ≡ j → 2 * n - 3 ≡ w → w ≤ j → j < 2 * w → slice_get (rows (queens n gs)) i ≡ Some (row_of n (n * n + j) (rising n (j - w + 1)))
-  queens-rising i j w l e f h u = past-falling i j w l e f h ∙ nth-alike (rising n) true (λ k. refl) n (n * n + w) 1 (2 * n - 3) _ (j - w) (n * n + j) (j - w + 1) (omega arith) (omega arith) (omega arith)
+  pub queens-rising : (i j w : ℕ) → 2 * n ≤ i → i - 2 * n ≡ w + j → 2 * n - 3 ≡ w → j < w → slice_get (rows (queens n gs)) i ≡ Some (row_of n (n * n + (2 * n - 3) + j) (rising n (j + 1)))
+  queens-rising i j w l e f h = past-falling i (w + j) w l e f (omega arith) ∙ nth-alike (rising n) true (λ k. refl) n (n * n + w) 1 (2 * n - 3) _ (w + j - w) (n * n + (2 * n - 3) + j) (j + 1) (omega arith) (omega arith) (omega arith)
 
   -- past the rising ones
   past-rising : (i j w : ℕ) → 2 * n ≤ i → i - 2 * n ≡ j → 2 * n - 3 ≡ w → 2 * w ≤ j → slice_get (rows (queens n gs)) i ≡ option_map (λ g. 2 * (g.place * n + g.value) ∷ []) (slice_get gs (j - 2 * w))

@@ -1,41 +1,36 @@
 -- Reading the rows of a puzzle one by one.
-use Rattle.std.proofs.Common.{◌≡◌, ℕ, ◌+◌, ◌<◌, ◌≤◌, List, [], ◌∷◌, ◌++◌, length, get_or, take, set, Some, None, Option, sym, ap, ◌∙◌, ⊎_elim, arith}
-use Rattle.std.specs.Option.{option_map}
+use Rattle.std.proofs.Common.{◌≡◌, ℕ, ◌+◌, ◌<◌, ◌≤◌, List, [], ◌∷◌, ◌++◌, length, get_or, set, drop, Option, sym, ap, ◌∙◌, add-one, add-zero, append-nil, append_assoc, arith}
+use Rattle.std.specs.Iterator.{YieldsFirst}
 use Rattle.std.specs.List.{slice_get}
-use Rattle.std.proofs.lemmas.Option.{slice_get-get_or, slice_get_past}
-use Rattle.std.proofs.lemmas.List.{length-take, take_more}
-use Rattle.std.proofs.lemmas.Bool.{cases_lt}
-use Rattle.rows.specs.declared.buffers.Row.{Row}
-use Rattle.rows.specs.Buffers.{held}
+use Rattle.std.proofs.lemmas.Option.{slice_get-get_or}
+use Rattle.std.proofs.Math.Seq.{drop-cons}
+use Rattle.std.proofs.lemmas.List.{length-append, get_or-append-add}
 use Rattle.rows.specs.Kinds.{longest}
 use Rattle.rows.specs.Bills.{bill_of}
 use Rattle.rows.proofs.Tallies.{bill-few, bill-push}
 
--- what stands at an index
-nth-some : {X : Type 0} (xs : List X) (i : ℕ) (x d : X) → Some x ≡ slice_get xs i → (i < length xs) × (x ≡ get_or xs i d)
-nth-some xs i x d e = ⊎_elim {C = (i < length xs) × (x ≡ get_or xs i d)}
-    (λ (h : i < length xs). let f = slice_get-get_or xs i d h in (h, cc))
-    (λ (h : length xs ≤ i). let f = slice_get_past xs i h in let z : ◌≡◌ {A = ℕ} 0 1 = cc in absurd (omega arith))
-    (cases_lt i (length xs))
+-- the row of an index is the first of those that are left from it on
+pub next-row : (rows left : List (List ℕ)) (start i next : ℕ) (o : Option (List ℕ)) → left ≡ drop start rows → i ≡ start → next ≡ i + 1 → i < length rows → o ≡ slice_get rows i → YieldsFirst {S = List (List ℕ)} (λ r. r) left o (drop next rows)
+next-row rows left start i next o e f n h r = rw (r, e, n, ← f, slice_get-get_or rows i [] h, add-one) (drop-cons rows i [] h)
 
--- a row that is read is the one of its index
-pub read_some : (rows : List (List ℕ)) (i : ℕ) (o : Option Row) (row : Row) → option_map held o ≡ slice_get rows i → o ≡ Some row → (i < length rows) × (held row ≡ get_or rows i [])
-read_some rows i o row e h = nth-some rows i (held row) [] (ap (option_map held) (sym h) ∙ e)
+-- a loop over the rows, where those so far and those that are left are all, and row is the first that is left
+module _ (rows so_far left rest : List (List ℕ)) (row : List ℕ) (whole : so_far ++ left ≡ rows) (turn : left ≡ row ∷ rest) where
+  -- row is that of the number of those so far
+  pub row-of-turn : (length so_far < length rows) × (row ≡ get_or rows (length so_far) [])
+  row-of-turn = rw (← whole, turn) (omega (arith, length-append so_far (row ∷ rest)), sym (rw add-zero at (get_or-append-add so_far (row ∷ rest) 0 [])))
 
--- below the number of rows one is read
-pub read_none : {A : Type 0} (rows : List (List ℕ)) (i : ℕ) (o : Option Row) → i < length rows → option_map held o ≡ slice_get rows i → o ≡ None → A
-read_none rows i o l e h = let f = slice_get-get_or rows i [] l in let k = ap (option_map held) (sym h) ∙ e in let z : ◌≡◌ {A = ℕ} 0 1 = cc in absurd (omega arith)
+  -- after it those so far and those that are left are all
+  pub after-turn : so_far ++ row ∷ [] ++ rest ≡ rows
+  after-turn = append_assoc so_far (row ∷ []) rest ∙ (ap (λ xs. so_far ++ xs) (sym turn) ∙ whole)
 
--- no row is too long for its buffer
-pub held-short : (row : Row) → length (held row) ≤ longest
-held-short row = omega (arith, length-take row.len row.literals, row.short)
+-- where none is left, those so far are all
+pub whole-at-end : (rows so_far left : List (List ℕ)) → so_far ++ left ≡ rows → left ≡ [] → so_far ≡ rows
+whole-at-end rows so_far left e f = sym (append-nil so_far) ∙ (ap (λ xs. so_far ++ xs) (sym f) ∙ e)
 
 -- one row more in a bill that is tallied row by row
-pub tally-step : (rows : List (List ℕ)) (i : ℕ) (counts row : List ℕ) → i < length rows → row ≡ get_or rows i [] → length row ≤ longest → counts ≡ bill_of (take i rows) → set counts (length row) (get_or counts (length row) 0 + 1) ≡ bill_of (take (i + 1) rows)
-tally-step rows i counts row h e l t =
-    let f : take (i + 1) rows ≡ take i rows ++ row ∷ [] = take_more rows i [] h ∙ ap (λ (r : List ℕ). take i rows ++ r ∷ []) (sym e) in
-    ap (λ (cs : List ℕ). set cs (length row) (get_or cs (length row) 0 + 1)) t ∙ sym (ap bill_of f ∙ bill-push (take i rows) row (omega arith))
+pub tally-step : (rows : List (List ℕ)) (counts row : List ℕ) → length row ≤ longest → counts ≡ bill_of rows → set counts (length row) (get_or counts (length row) 0 + 1) ≡ bill_of (rows ++ row ∷ [])
+tally-step rows counts row l t = rw t (sym (bill-push rows row (omega arith)))
 
 -- and its count is still small
-pub tally-fits : (rows : List (List ℕ)) (i k : ℕ) (counts : List ℕ) → k ≤ longest → counts ≡ bill_of (take i rows) → get_or counts k 0 ≤ i
-tally-fits rows i k counts h t = rw t (omega (arith, bill-few (take i rows) k (omega arith), length-take i rows))
+pub tally-fits : (rows : List (List ℕ)) (k : ℕ) (counts : List ℕ) → k ≤ longest → counts ≡ bill_of rows → get_or counts k 0 ≤ length rows
+tally-fits rows k counts h t = rw t (bill-few rows k (omega arith))

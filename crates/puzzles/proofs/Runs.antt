@@ -1,5 +1,5 @@
 -- Rows whose variables stand at equal distances, and the diagonals as such.
-use Rattle.std.proofs.Common.{◌≡◌, ℕ, zero, suc, ◌+◌, ◌-◌, ◌*◌, ◌<◌, ◌≤◌, Bool, true, false, cond, ◌&&◌, ltb, leb, List, [], ◌∷◌, ◌++◌, map, length, refl, ap, ◌∙◌, ⊎_elim, append-nil, mul-le-mul_right, add-mul, mul-le-mul_left, mul-add, arith}
+use Rattle.std.proofs.Common.{◌≡◌, ℕ, zero, suc, ◌+◌, ◌-◌, ◌*◌, ◌<◌, ◌≤◌, Bool, true, false, cond, ◌&&◌, ltb, leb, List, [], ◌∷◌, ◌++◌, map, length, refl, ap, ◌∙◌, ⊎_elim, append-nil, add-mul, mul-le-mul_left, mul-add, arith}
 use mathlib.Core.List.{map-map}
 use native.Mathlib.Nat.{mul-sub}
 use Rattle.std.specs.List.{range_with_len, flat_map}
@@ -8,7 +8,7 @@ use Rattle.std.proofs.lemmas.Bool.{cases_lt}
 use Rattle.std.proofs.lemmas.Bool.Decides.{nat_tests}
 use Rattle.puzzles.specs.Lines.{Cell, at, plain, variable_of, row_of}
 use Rattle.puzzles.specs.Queens.{column, falling, rising}
-use Rattle.puzzles.proofs.DiagonalCells.{falling-cells, rising-cells}
+use Rattle.puzzles.specs.laws.DiagonalCells.{falling-cells, rising-cells}
 
 -- the literals of `count` variables from `start` on, each `step` after the one before
 abbrev pub run_of : ℕ → ℕ → ℕ → List ℕ
@@ -21,14 +21,6 @@ length_run start step count = length-map-range_with_len (λ k. 2 * (start + k * 
 -- one variable more
 pub run_more : (start step k v : ℕ) (xs ys : List ℕ) → xs ≡ run_of start step k → v ≡ start + k * step → ys ≡ xs ++ (2 * v) ∷ [] → ys ≡ run_of start step (k + 1)
 run_more start step k v xs ys e p q = let m = map-range_with_len_more (λ k. 2 * (start + k * step)) 0 k k (omega arith) in cc
-
--- the variable of one turn more
-pub next-variable : (start step k v : ℕ) → v ≡ start + k * step → v + step ≡ start + (k + 1) * step
-next-variable start step k v e = omega (arith, add-mul k 1 step)
-
--- and it is no larger than that after the last turn
-pub variable-small : (start step count k v : ℕ) → v ≡ start + k * step → k < count → v + step ≤ start + count * step
-variable-small start step count k v e h = let l : k + 1 ≤ count = omega arith in omega (arith, add-mul k 1 step, mul-le-mul_right step l)
 
 -- literals made from numbers that go up by one
 run-from : (f : ℕ → ℕ) (start step i m : ℕ) → ((k : ℕ) → k < m → f (i + k) ≡ 2 * (start + k * step)) → map f (range_with_len i m) ≡ run_of start step m

@@ -52,13 +52,6 @@ next b i = cells b + slacks (take i b.lines)
 abbrev pub filled : Board → List ℕ → List Bool → ℕ → List Bool
 filled b a before i = front b a i ++ drop (next b i) before
 
--- at the start the board variables are filled
-pub filled_none : (b : Board) (a : List ℕ) (before now : List Bool) → now ≡ board_values b.size b.places a ++ drop (cells b) before → now ≡ filled b a now 0
-filled_none b a before now e =
-    let m = drop_at (board_values b.size b.places a) (drop (cells b) before) (cells b) (length-board b.size b.places a) in
-    let d : drop (cells b) now ≡ drop (cells b) before = ap (drop (cells b)) e ∙ m in
-    e ∙ sym (rw (append-nil (board_values b.size b.places a), add-zero, d))
-
 -- at the end all are
 pub filled-all : (b : Board) (a : List ℕ) (before now : List Bool) (i : ℕ) → now ≡ board_values b.size b.places a ++ drop (cells b) before → length (rows b) ≤ i → filled b a now i ≡ encode b a ++ drop (vars b) before
 filled-all b a before now i e h =

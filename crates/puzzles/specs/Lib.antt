@@ -5,3 +5,4 @@ pub mod Words
 pub mod Givens
 pub mod Queens
 pub mod QueensMade
+pub mod laws

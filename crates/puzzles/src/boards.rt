@@ -1,8 +1,6 @@
 // What every puzzle gives: its size, places, variables and rows, and whether bytes are an answer.
 ghost use Rattle.std.specs.Prelude.{◌≡◌, length};
 ghost use Rattle.puzzles.specs.Boards.{Board, Faithful, Lined, rows as board_rows, vars as board_vars};
-ghost use Rattle.rows.specs.Buffers.{held};
-ghost use Rattle.std.specs.Option.{option_map};
 ghost use Rattle.std.specs.List.{slice_get};
 
 use rows::Row;
@@ -12,11 +10,6 @@ use rows::Row;
 pub trait Puzzle {
     // What the puzzle is.
     ghost board: { Self → Board };
-
-    // What a puzzle shows of its own: its answers are the lists of values that meet its lines. From that it follows, once for
-    // all puzzles, that answers and solutions match one to one. Nothing is run: a call brings the fact into the caller's proof.
-    fn lined(&self)
-        ensures { Lined (board self.now) };
 
     // How many values there are.
     fn size(&self) -> u8
@@ -36,11 +29,15 @@ pub trait Puzzle {
 
     // The row of an index; none past the last.
     fn row(&self, index: u32) -> Option<Row>
-        ensures { option_map held result ≡ slice_get (board_rows (board self.now)) index };
+        ensures { result ≡ slice_get (board_rows (board self.now)) index };
 
     // Whether bytes are an answer.
     fn is_answer(&self, answer: &[u8]) -> bool
         ensures { result ≡ (board self.now).answer answer.now };
+
+    // What a puzzle shows of its own: its answers are the lists of values that meet its lines. From that it follows, once for
+    // all puzzles, that answers and solutions match one to one.
+    ghost lined: { (p : Self) → Lined (board p) };
 }
 
 // The law of every puzzle: its answers and the solutions of its rows match one to one, by `encode` and `decode`.
@@ -48,5 +45,5 @@ pub trait Puzzle {
 pub fn faithful<P: Puzzle>(puzzle: &P)
     ensures { Faithful (P.Puzzle.board puzzle.now) }
 {
-    puzzle.lined();
+    let _ = puzzle;
 }

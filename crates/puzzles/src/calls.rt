@@ -8,6 +8,7 @@ ghost use Rattle.rows.specs.Truth.{first_false, holds, valuation};
 ghost use Rattle.rows.specs.declared.kinds.Kind.TheVariants.{Cover};
 
 use crate::boards::Puzzle;
+use crate::walking::rows_of;
 use rows::{Bill, Fault, Kind, Stop, judge};
 
 // The bill of a puzzle: how many of its rows have each length.
@@ -15,30 +16,25 @@ pub fn bill<P: Puzzle>(puzzle: &P) -> Bill
     ensures { result.counts ≡ bill_of (board_rows (P.Puzzle.board puzzle.now)) }
 {
     let mut bill = Bill::empty();
-    for i in 0..puzzle.rows() {
-        if let Some(row) = puzzle.row(i) {
-            bill.counts[row.literals().len()] += 1;
-        }
+    for row in rows_of(puzzle) {
+        bill.counts[row.literals().len()] += 1;
     }
     bill
 }
 
 // The index of the first row that is not true, or none where all are.
 // Stop 3 where there is not a value for each variable.
+#[tactic(auto, using(crate::proofs::Chains::firsts))]
 pub fn first_false<P: Puzzle>(puzzle: &P, values: &[bool]) -> Result<Option<u32>, Fault>
     ensures value { result ≡ failing (P.Puzzle.board puzzle.now) values.now }
     ensures first { First (holds Cover (valuation values.now)) (board_rows (P.Puzzle.board puzzle.now)) (first_false Cover (valuation values.now) 0 (board_rows (P.Puzzle.board puzzle.now))) }
 {
-    puzzle.lined();
     if values.len() != puzzle.vars() as usize {
         return Err(Fault::here(Stop::Length(values.len() as u64)));
     }
-    for i in 0..puzzle.rows() {
-        if let Some(row) = puzzle.row(i) {
-            let holds = judge(Kind::Cover, values, row.literals())?;
-            if !holds {
-                return Ok(Some(i));
-            }
+    for (i, row) in rows_of(puzzle).enumerate() {
+        if !judge(Kind::Cover, values, row.literals())? {
+            return Ok(Some(i as u32));
         }
     }
     Ok(None)

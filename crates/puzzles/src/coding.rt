@@ -1,4 +1,5 @@
-// Answers as truth values, and truth values as answers.
+// Answers as truth values, and truth values as answers. Puzzle, bytes and truth values come from three owners, so they stay
+// three parameters.
 ghost use Rattle.std.specs.Prelude.{◌≡◌, ℕ, ◌*◌, ◌/◌, ◌<◌, ◌≤◌, not, List, [], ◌∷◌, ◌++◌, length, drop, ◌==◌, slice_set};
 ghost use Rattle.puzzles.specs.Boards.{encode as encoding, vars as board_vars};
 ghost use Rattle.puzzles.specs.Calls.{Decodes, Encodes, Fills, fill_stop};
@@ -7,8 +8,9 @@ ghost use Rattle.rows.specs.Stops.{Unless};
 ghost use Rattle.rows.specs.Truth.{trues, truths, valuation};
 ghost use Rattle.std.specs.List.{prefix_len, AllByRecursion};
 
-use crate::boards::{Puzzle, faithful};
+use crate::boards::Puzzle;
 use crate::calls::first_false;
+use crate::walking::rows_of;
 use rows::{Fault, Literal, Stop, count_true, variable};
 
 // The truth values of a filled board, right or wrong, into the first of `values`; the rest stays as it is.
@@ -31,7 +33,6 @@ pub fn encode<P: Puzzle>(puzzle: &P, answer: &[u8], values: &mut [bool]) -> Resu
     if !puzzle.is_answer(answer) {
         return Err(Fault::here(Stop::Wrong(0)));
     }
-    faithful(puzzle);
     fill_all(puzzle, answer, values);
     Ok(())
 }
@@ -46,11 +47,9 @@ pub fn decode<P: Puzzle>(puzzle: &P, values: &[bool], answer: &mut [u8]) -> Resu
     if answer.len() < places {
         return Err(Fault::here(Stop::Small(places as u64)));
     }
-    let failing = first_false(puzzle, values)?;
-    if failing.is_some() {
+    if first_false(puzzle, values)?.is_some() {
         return Err(Fault::here(Stop::Wrong(0)));
     }
-    faithful(puzzle);
     read_all(puzzle, values, answer);
     Ok(())
 }
@@ -71,17 +70,15 @@ fn check_fill<P: Puzzle>(puzzle: &P, bytes: usize, room: usize) -> Result<(), Fa
 
 // Fills the board variables, then the slacks row by row.
 fn fill_all<P: Puzzle>(puzzle: &P, answer: &[u8], values: &mut [bool])
-    requires { (length answer.now ≡ (P.Puzzle.board puzzle.now).places) × (board_vars (P.Puzzle.board puzzle.now) ≤ length values.old) }
+    requires whole { length answer.now ≡ (P.Puzzle.board puzzle.now).places }
+    requires room { board_vars (P.Puzzle.board puzzle.now) ≤ length values.old }
     ensures { values.new ≡ encoding (P.Puzzle.board puzzle.now) answer.now ++ drop (board_vars (P.Puzzle.board puzzle.now)) values.old }
 {
-    puzzle.lined();
     let size = puzzle.size() as usize;
     fill_cells(size, answer, values);
     let cells = answer.len() * size;
-    for i in 0..puzzle.rows() {
-        if let Some(row) = puzzle.row(i) {
-            fill_slack(cells, row.literals(), values);
-        }
+    for row in rows_of(puzzle) {
+        fill_slack(cells, row.literals(), values);
     }
 }
 
@@ -90,8 +87,9 @@ fn fill_cells(size: usize, answer: &[u8], values: &mut [bool])
     requires { length answer.now * size ≤ length values.old }
     ensures { values.new ≡ board_values size (length answer.now) answer.now ++ drop (length answer.now * size) values.old }
 {
-    for i in 0..answer.len() * size {
-        values[i] = answer[i / size] as usize == i % size;
+    let cells = answer.len() * size;
+    for (i, value) in values[..cells].iter_mut().enumerate() {
+        *value = answer[i / size] as usize == i % size;
     }
 }
 
@@ -112,13 +110,15 @@ fn fill_slack(cells: usize, row: &[Literal], values: &mut [bool])
 
 // Reads the value of each place.
 fn read_all<P: Puzzle>(puzzle: &P, values: &[bool], answer: &mut [u8])
-    requires { (length values.now ≡ board_vars (P.Puzzle.board puzzle.now)) × ((P.Puzzle.board puzzle.now).places ≤ length answer.old) }
+    requires whole { length values.now ≡ board_vars (P.Puzzle.board puzzle.now) }
+    requires room { (P.Puzzle.board puzzle.now).places ≤ length answer.old }
     ensures { answer.new ≡ values_of (P.Puzzle.board puzzle.now).size (P.Puzzle.board puzzle.now).places values.now ++ drop (P.Puzzle.board puzzle.now).places answer.old }
 {
     let size = puzzle.size() as usize;
-    for place in 0..puzzle.places() {
+    let places = puzzle.places();
+    for (place, value) in answer[..places].iter_mut().enumerate() {
         let start = place * size;
-        answer[place] = first_true(&values[start..start + size]) as u8;
+        *value = first_true(&values[start..start + size]) as u8;
     }
 }
 
@@ -126,10 +126,5 @@ fn read_all<P: Puzzle>(puzzle: &P, values: &[bool], answer: &mut [u8])
 fn first_true(values: &[bool]) -> usize
     ensures { result ≡ prefix_len not values.now }
 {
-    for (i, value) in values.iter().enumerate() {
-        if *value {
-            return i;
-        }
-    }
-    values.len()
+    values.iter().take_while(|value| !**value).count()
 }

@@ -8,9 +8,11 @@ mod coding;
 mod filling;
 mod givens;
 mod queens;
+mod walking;
 
 pub use boards::{Puzzle, faithful};
 pub use calls::{bill, first_false};
 pub use coding::{decode, encode, fill};
 pub use givens::{ENTRIES, Given};
 pub use queens::Queens;
+pub use walking::{RowsOf, rows_of};

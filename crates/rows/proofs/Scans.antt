@@ -1,6 +1,7 @@
 -- The first that fails is what it is called: it fails, and none before it does.
-use Rattle.std.proofs.Common.{◌≡◌, ℕ, zero, suc, ◌+◌, ◌<◌, ◌≤◌, Bool, true, false, List, [], ◌∷◌, length, get_or, drop, Some, None, Option, ◌∙◌, ⊎_elim, arith}
-use Rattle.std.proofs.lemmas.List.{at_drop_more, at_drop_all}
+use Rattle.std.specs.List.{position, position_from}
+use Rattle.std.proofs.lemmas.Iterator.Adapters.{position_from-zero}
+use Rattle.std.proofs.Common.{not, sym, refl, ◌≡◌, ℕ, zero, suc, ◌+◌, Bool, true, false, List, [], ◌∷◌, Some, None, Option, ◌∙◌, ⊎_elim, arith}
 use Rattle.std.proofs.lemmas.Bool.{cases_Bool}
 use Rattle.rows.specs.Firsts.{first_failing, First}
 
@@ -30,13 +31,10 @@ unshifted test xs (Some j) s = let e : j ≡ s.0 = omega (arith, s.1) in rw e s.
 pub first-is-first : {X : Type 0} (test : X → Bool) (xs : List X) → First test xs (first_failing test 0 xs)
 first-is-first test xs = unshifted test xs (first_failing test 0 xs) (scanned test 0 xs)
 
--- a loop that looks for the first that fails, before the element of index i: the elements so far pass
-module _ {X : Type 0} (test : X → Bool) (xs : List X) (i : ℕ) (so_far : first_failing test 0 xs ≡ first_failing test i (drop i xs)) where
-  pub scan-more : (d : X) → i < length xs → test (get_or xs i d) ≡ true → first_failing test 0 xs ≡ first_failing test (i + 1) (drop (i + 1) xs)
-  scan-more d h e = so_far ∙ (at_drop_more (λ (rest : List X). first_failing test i rest) xs i d h ∙ rw e)
+-- the first that fails is the first that passes the opposite test, as the library looks for it
+first_failing-is : {X : Type 0} (test : X → Bool) (i : ℕ) (xs : List X) → first_failing test i xs ≡ position_from (λ x. not (test x)) i xs
+first_failing-is test i [] = refl
+first_failing-is test i (x ∷ xs) = let e = first_failing-is test (i + 1) xs in grind (arith, e)
 
-  pub scan-found : (d : X) → i < length xs → test (get_or xs i d) ≡ false → first_failing test 0 xs ≡ Some i
-  scan-found d h e = so_far ∙ (at_drop_more (λ (rest : List X). first_failing test i rest) xs i d h ∙ rw e)
-
-  pub scan-none : length xs ≤ i → first_failing test 0 xs ≡ None
-  scan-none h = so_far ∙ at_drop_all (λ (rest : List X). first_failing test i rest) xs i h
+pub first-is-position : {X : Type 0} (test : X → Bool) (xs : List X) → position (λ x. not (test x)) xs ≡ first_failing test 0 xs
+first-is-position test xs = position_from-zero (λ x. not (test x)) xs ∙ sym (first_failing-is test 0 xs)

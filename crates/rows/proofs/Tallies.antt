@@ -1,7 +1,8 @@
 -- The bill of a list of rows, as a loop over the rows makes it.
-use Rattle.std.proofs.Common.{◌≡◌, ℕ, zero, suc, ◌+◌, ◌<◌, ◌≤◌, Bool, cond, eqb, List, [], ◌∷◌, ◌++◌, map, length, get_or, set, replicate, sym, refl, ap, ◌∙◌, arith}
+use Rattle.std.proofs.Common.{◌≡◌, ℕ, ◌+◌, ◌<◌, ◌≤◌, Bool, cond, eqb, List, [], ◌∷◌, ◌++◌, map, length, get_or, set, replicate, sym, refl, ap, ◌∙◌, arith}
 use Rattle.std.proofs.lemmas.Bool.Decides.{nat_tests}
-use Rattle.std.proofs.lemmas.List.{ext_get_or, length-set, map_push}
+use Rattle.std.proofs.lemmas.Grind.{get_or-set_at}
+use Rattle.std.proofs.lemmas.List.{ext_get_or, get_or-set_other, length-set, map_push}
 use Rattle.std.proofs.lemmas.List.FromFn.{length-map-range_with_len, get_or-map-range_with_len}
 use Rattle.rows.specs.Kinds.{lengths}
 use Rattle.rows.specs.Truth.{trues}
@@ -38,11 +39,7 @@ bill-none = refl
 
 -- one more at a place of a list
 set_more : (xs : List ℕ) (i k : ℕ) → i < length xs → get_or (set xs i (get_or xs i 0 + 1)) k 0 ≡ get_or xs k 0 + cond (eqb i k) 1 0
-set_more [] i k h = absurd (omega arith)
-set_more (x ∷ xs) zero zero h = grind (arith, nat_tests)
-set_more (x ∷ xs) zero (suc k) h = grind (arith, nat_tests)
-set_more (x ∷ xs) (suc i) zero h = grind (arith, nat_tests)
-set_more (x ∷ xs) (suc i) (suc k) h = let e = set_more xs i k (omega arith) in grind (arith, nat_tests)
+set_more xs i k h = grind (arith, nat_tests, get_or-set_at, get_or-set_other)
 
 -- one row more raises the count of its length by one
 pub bill-push : (rows : List (List ℕ)) (row : List ℕ) → length row < lengths → bill_of (rows ++ row ∷ []) ≡ set (bill_of rows) (length row) (get_or (bill_of rows) (length row) 0 + 1)

@@ -12,7 +12,7 @@ pub const ROWS: u32 = 65_535;
 
 // A bill has a count for each length; count k is the number of rows of k literals still to be posted.
 // A count may be over the limit of 65,535: then no solver takes the bill.
-#[derive(Clone, Copy, Debug)]
+#[derive(Clone, Copy, PartialEq, Eq, Debug)]
 pub struct Bill {
     pub counts: [u32; LENGTHS],
 }
@@ -32,24 +32,17 @@ impl Bill {
         ensures value { result ≡ shortest self.now.counts }
         ensures first { First (λ c. nat_eq c 0) self.now.counts (shortest self.now.counts) }
     {
-        for (len, count) in self.counts.iter().enumerate() {
-            if *count > 0 {
-                return Some(len);
-            }
-        }
-        None
+        self.counts.iter().position(|count| *count > 0)
     }
 
     // Whether no count is over the limit, and none above 0 at a length that the kind lacks.
     pub fn is_within(&self, kind: Kind) -> bool
         ensures { result ≡ counts_within kind 0 self.now.counts }
     {
-        for (len, count) in self.counts.iter().enumerate() {
-            if !may_owe(kind, len, *count) {
-                return false;
-            }
-        }
-        true
+        self.counts
+            .iter()
+            .enumerate()
+            .all(|(len, count)| may_owe(kind, len, *count))
     }
 }
 
@@ -65,6 +58,7 @@ impl fmt::Display for Bill {
     ghost output = { λ b. Some (bill_text b.counts) };
 
     fn fmt<W: fmt::Write>(&self, f: &mut fmt::Formatter<W>) -> fmt::Result {
+        // a flag and no chain: a `for` over a `filter` in a generic function gets no proof on this toolchain
         let mut any = false;
         for (len, count) in self.counts.iter().enumerate() {
             if *count > 0 {

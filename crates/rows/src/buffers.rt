@@ -1,16 +1,63 @@
 // A buffer for one row.
-ghost use Rattle.std.specs.Prelude.{◌≤◌};
+ghost use Rattle.std.specs.Prelude.{◌≡◌, ◌≤◌, [], ◌∷◌, ◌++◌, length, if◌then◌else◌, nat_lt};
 ghost use Rattle.rows.specs.Kinds.{longest};
 
 use crate::kinds::LONGEST;
 use crate::literals::Literal;
+use std::marker::Model;
 
-mod filling;
-
-// A row by value: room for the longest, and how many literals there are so far.
+// A row by value, which callers see as the list of its literals so far.
+// An array with a length and not a Vec, since memory is fixed and nothing allocates.
 #[derive(Clone, Copy)]
 pub struct Row {
     literals: [Literal; LONGEST],
     len: usize,
-    ghost short: { len ≤ longest },
+}
+
+impl Model for Row {
+    ghost use Rattle.std.specs.Prelude.{ℕ, List};
+    ghost use Rattle.rows.specs.Buffers.{Formed, buffer, buffer-held, held};
+
+    ghost Value = { List ℕ };
+
+    ghost view = { held };
+
+    ghost invariant = { Formed };
+
+    ghost inverse = { buffer };
+
+    ghost inverse_ok = { buffer-held };
+}
+
+impl Row {
+    // The row of no literals.
+    pub fn new() -> Row
+        ensures { result ≡ [] }
+    {
+        Row {
+            literals: [0; LONGEST],
+            len: 0,
+        }
+    }
+
+    // One literal more; false where the row has the most that a row may have, and then it stays as it is.
+    pub fn push(&mut self, literal: Literal) -> bool
+        ensures room { result ≡ nat_lt (length self.old) longest }
+        ensures after { self.new ≡ (if result then self.old ++ literal ∷ [] else self.old) }
+    {
+        if self.len >= LONGEST {
+            return false;
+        }
+        self.literals[self.len] = literal;
+        self.len += 1;
+        true
+    }
+
+    // The literals so far.
+    pub fn literals(&self) -> &[Literal]
+        ensures value { result.now ≡ self.now }
+        ensures short { length self.now ≤ longest }
+    {
+        &self.literals[..self.len]
+    }
 }

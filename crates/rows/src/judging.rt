@@ -9,14 +9,11 @@ use crate::literals::{Literal, variable};
 use crate::stops::{Fault, Stop};
 
 // The truth of a literal; none where the values do not reach its variable.
+#[tactic(auto, unfolding(crate::specs::Literals::truth_of))]
 fn truth(values: &[bool], literal: Literal) -> Option<bool>
     ensures { result ≡ truth_in values.now literal }
 {
-    let at = variable(literal) as usize;
-    if at >= values.len() {
-        return None;
-    }
-    let value = values[at];
+    let value = *values.get(variable(literal) as usize)?;
     Some(if literal % 2 == 0 { value } else { !value })
 }
 
@@ -26,6 +23,7 @@ pub fn count_true(values: &[bool], row: &[Literal]) -> Result<usize, Fault>
     ensures value { result ≡ counted values.now row.now }
     ensures first { First (λ l. nat_lt (l / 2) (length values.now)) row.now (first_wide (length values.now) 0 row.now) }
 {
+    // a loop with the index, as the rules have it: it counts and stops at a position, which no chain says more plainly
     let mut trues: usize = 0;
     for (i, literal) in row.iter().enumerate() {
         let Some(holds) = truth(values, *literal) else {

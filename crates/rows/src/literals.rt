@@ -24,16 +24,13 @@ pub fn positive(variable: u32) -> Option<Literal>
 pub fn variable(literal: Literal) -> u32
     ensures { result ≡ literal / 2 }
 {
-    (literal / 2) as u32
+    u32::from(literal / 2)
 }
 
 // The opposite literal, of the same variable.
+#[tactic(auto, unfolding(crate::specs::Literals::opposite))]
 pub fn negated(literal: Literal) -> Literal
     ensures { result ≡ opposite literal }
 {
-    if literal % 2 == 0 {
-        literal + 1
-    } else {
-        literal - 1
-    }
+    literal ^ 1
 }

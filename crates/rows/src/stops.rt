@@ -39,47 +39,26 @@ pub enum Stop {
 }
 
 impl Stop {
-    // The stop's number, 1 to 14.
-    fn number(self) -> u8
-        ensures { result ≡ stop_number self }
+    // The stop's number, 1 to 14, and its name in messages. One table, since a variant with a value can have no discriminant.
+    fn title(self) -> (u8, &'static str)
+        ensures number { result.0 ≡ stop_number self }
+        ensures name { result.1.now ≡ stop_name self }
     {
         match self {
-            Stop::Size(_) => 1,
-            Stop::Count(_) => 2,
-            Stop::Length(_) => 3,
-            Stop::Entry(_) => 4,
-            Stop::Wrong(_) => 5,
-            Stop::Twice(_) => 6,
-            Stop::Joint => 7,
-            Stop::Big => 8,
-            Stop::Row(_) => 9,
-            Stop::Literal(_) => 10,
-            Stop::Bill(_) => 11,
-            Stop::Owed(_) => 12,
-            Stop::Small(_) => 13,
-            Stop::Make(_) => 14,
-        }
-    }
-
-    // The stop's name in messages.
-    fn name(self) -> &'static str
-        ensures { result.now ≡ stop_name self }
-    {
-        match self {
-            Stop::Size(_) => "SIZE",
-            Stop::Count(_) => "COUNT",
-            Stop::Length(_) => "LENGTH",
-            Stop::Entry(_) => "ENTRY",
-            Stop::Wrong(_) => "WRONG",
-            Stop::Twice(_) => "TWICE",
-            Stop::Joint => "JOINT",
-            Stop::Big => "BIG",
-            Stop::Row(_) => "ROW",
-            Stop::Literal(_) => "LITERAL",
-            Stop::Bill(_) => "BILL",
-            Stop::Owed(_) => "OWED",
-            Stop::Small(_) => "SMALL",
-            Stop::Make(_) => "MAKE",
+            Stop::Size(_) => (1, "SIZE"),
+            Stop::Count(_) => (2, "COUNT"),
+            Stop::Length(_) => (3, "LENGTH"),
+            Stop::Entry(_) => (4, "ENTRY"),
+            Stop::Wrong(_) => (5, "WRONG"),
+            Stop::Twice(_) => (6, "TWICE"),
+            Stop::Joint => (7, "JOINT"),
+            Stop::Big => (8, "BIG"),
+            Stop::Row(_) => (9, "ROW"),
+            Stop::Literal(_) => (10, "LITERAL"),
+            Stop::Bill(_) => (11, "BILL"),
+            Stop::Owed(_) => (12, "OWED"),
+            Stop::Small(_) => (13, "SMALL"),
+            Stop::Make(_) => (14, "MAKE"),
         }
     }
 }
@@ -92,7 +71,7 @@ pub struct Fault {
 }
 
 impl Fault {
-    // A refusal by whoever was called.
+    // A refusal by whoever was called. Named, since a `From` would not say that the depth is 0.
     pub fn here(stop: Stop) -> Fault
         ensures { result ≡ here stop }
     {
@@ -106,33 +85,32 @@ impl Fault {
         self.stop
     }
 
-    // The stop's number, 1 to 14.
+    // The stop's number, 1 to 14, by which the rules name it.
     pub fn number(&self) -> u8
         ensures { result ≡ stop_number self.now.stop }
     {
-        let stop = self.stop();
-        stop.number()
+        let (number, _) = self.stop.title();
+        number
     }
 
     // Where: a size, a count, an index or a length, as the stop's table says.
     pub fn place(&self) -> u64
         ensures { result ≡ fault_place self.now }
     {
-        match self.stop() {
-            Stop::Joint => self.depth as u64,
-            Stop::Big => self.depth as u64,
-            Stop::Size(place) => place,
-            Stop::Count(place) => place,
-            Stop::Length(place) => place,
-            Stop::Entry(place) => place,
-            Stop::Wrong(place) => place,
-            Stop::Twice(place) => place,
-            Stop::Row(place) => place,
-            Stop::Literal(place) => place,
-            Stop::Bill(place) => place,
-            Stop::Owed(place) => place,
-            Stop::Small(place) => place,
-            Stop::Make(place) => place,
+        match self.stop {
+            Stop::Joint | Stop::Big => u64::from(self.depth),
+            Stop::Size(place)
+            | Stop::Count(place)
+            | Stop::Length(place)
+            | Stop::Entry(place)
+            | Stop::Wrong(place)
+            | Stop::Twice(place)
+            | Stop::Row(place)
+            | Stop::Literal(place)
+            | Stop::Bill(place)
+            | Stop::Owed(place)
+            | Stop::Small(place)
+            | Stop::Make(place) => place,
         }
     }
 
@@ -148,8 +126,7 @@ impl fmt::Display for Fault {
     ghost output = { λ f. Some (fault_text f) };
 
     fn fmt<W: fmt::Write>(&self, f: &mut fmt::Formatter<W>) -> fmt::Result {
-        let number = self.number();
-        let name = self.stop().name();
+        let (number, name) = self.stop.title();
         let place = self.place();
         let depth = self.depth;
         write!(f, "stop {number} {name}, place {place}, depth {depth}")

@@ -22,8 +22,8 @@ fn kinds(rt: HostRuntime) -> Result<(), Fail> {
         (4, 3, 3, false, true, false),
     ];
     for (number, low, high, none, one, two) in table {
-        let kind = Kind::from_number(number).ok_or("no kind has this number")?;
-        assert_eq!(rt; u64::from(kind.number()), number);
+        let kind = Kind::try_from(number)?;
+        assert_eq!(rt; u64::from(u8::from(kind)), number);
         for len in 0..20usize {
             assert_eq!(rt; kind.has_length(len), low <= len && len <= high);
         }
@@ -32,8 +32,8 @@ fn kinds(rt: HostRuntime) -> Result<(), Fail> {
             (none, one, two)
         );
     }
-    assert!(rt; Kind::from_number(0).is_none());
-    assert!(rt; Kind::from_number(5).is_none());
+    assert_eq!(rt; Kind::try_from(0), Err(Fault::here(Stop::Make(0))));
+    assert_eq!(rt; Kind::try_from(5), Err(Fault::here(Stop::Make(5))));
     Ok(())
 }
 

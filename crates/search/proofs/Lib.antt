@@ -1,7 +1,8 @@
+pub mod Passes
 pub mod Spaces
-pub mod Counts
+pub mod Reslotting
+pub mod Moving
 pub mod Seeing
 pub mod Conclusions
 pub mod Appending
-pub mod Finding
 pub mod Values

@@ -8,11 +8,4 @@ pub mod Search
 pub mod Stored
 pub mod Postures
 pub mod Backtracking
-pub mod Standing
-pub mod Ordering
-pub mod Packed
-pub mod Steps
-pub mod Taking
-pub mod Bridge
-pub mod Moves
-pub mod Passes
+pub mod laws

@@ -2,7 +2,7 @@
 ghost use Rattle.std.specs.Prelude.{◌≡◌, true, ◌++◌};
 ghost use Rattle.search.specs.Postures.{drawn_by, left_by, solutions, stands};
 
-use crate::outcomes::{Effort, Posture};
+use crate::outcomes::Posture;
 use crate::store::Store;
 
 mod making;
@@ -12,7 +12,6 @@ mod solving;
 pub struct Backtracker {
     store: Store,
     posture: Posture,
-    effort: Effort,
     ghost standing: { stands posture store ≡ true },
     ghost order: { drawn_by posture store ++ left_by posture store ≡ solutions store },
 }

@@ -4,8 +4,10 @@
 mod backtracker;
 mod judging;
 mod outcomes;
+mod packing;
 mod propagation;
 mod searching;
+mod slots;
 mod store;
 
 pub use backtracker::Backtracker;

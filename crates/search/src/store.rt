@@ -4,6 +4,7 @@ ghost use Rattle.rows.specs.Literals.{within};
 ghost use Rattle.search.specs.Layout.{well_formed};
 ghost use Rattle.search.specs.Room.{space};
 
+use crate::outcomes::Effort;
 use rows::{Bill, Kind};
 
 mod filling;
@@ -11,7 +12,8 @@ mod finding;
 
 pub(crate) use filling::space_of;
 
-// The slots of the variables come first, then the rows, each as its length and its literals.
+// The slots of the variables come first, then the rows, each as its length and its literals. The rules give a solver this one
+// buffer of two-byte numbers, so the figures that divide it stand beside it.
 #[derive(Drop)]
 pub(crate) struct Store {
     pub(crate) kind: Kind,
@@ -22,6 +24,7 @@ pub(crate) struct Store {
     end: usize,
     pub(crate) owed: Bill,
     pub(crate) work: Vec<u16>,
+    pub(crate) effort: Effort,
     ghost formed: { well_formed vars count end work.items ≡ true },
     ghost room: { end + space 0 owed.counts ≤ vec_len work },
     ghost narrow: { vars ≤ within },

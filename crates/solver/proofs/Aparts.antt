@@ -1,5 +1,5 @@
 -- Lists of which no two are equal.
-use Rattle.std.proofs.Common.{◌≡◌, Bool, true, false, cond, List, [], ◌∷◌, ◌++◌, map, filter, sym, refl, ap, ◌∙◌, subst, ⊎_elim, true≢false}
+use Rattle.std.proofs.Common.{◌≡◌, Bool, true, false, cond, List, [], ◌∷◌, ◌++◌, map, filter, sym, refl, ◌∙◌, subst, ⊎_elim, true≢false}
 use mathlib.Core.List.{Memᴰ}
 use Rattle.std.specs.List.{AllByRecursion}
 use Rattle.std.proofs.lemmas.Bool.{cases_Bool}
@@ -19,18 +19,15 @@ module _ {X : Type 0} where
         (cases_Bool (f y))
 
     pub of-kept : (xs : List X) {x : X} → Memᴰ x (filter f xs) → Memᴰ x xs
-    of-kept [] m = m
-    of-kept (y ∷ xs) {x} m = ⊎_elim
-        (λ (a : f y ≡ true). ⊎_elim (λ (d : x ≡ y). mathlib.Core.List.Memᴰ.head d) (λ (k : Memᴰ x (filter f xs)). mathlib.Core.List.Memᴰ.tail (of-kept xs k)) (mathlib.Core.List.Memᴰ.cases_cons (subst (λ b. Memᴰ x (cond b (y ∷ filter f xs) (filter f xs))) a m)))
-        (λ (a : f y ≡ false). mathlib.Core.List.Memᴰ.tail (of-kept xs (subst (λ b. Memᴰ x (cond b (y ∷ filter f xs) (filter f xs))) a m)))
-        (cases_Bool (f y))
+    of-kept [] = λ m. m
+    of-kept (y ∷ xs) {x} = elim (f y) as (λ b. Memᴰ x (cond b (y ∷ filter f xs) (filter f xs)) → Memᴰ x (y ∷ xs)) [
+      | true ↦ λ m. ⊎_elim (λ (d : x ≡ y). mathlib.Core.List.Memᴰ.head d) (λ (k : Memᴰ x (filter f xs)). mathlib.Core.List.Memᴰ.tail (of-kept xs k)) (mathlib.Core.List.Memᴰ.cases_cons m)
+      | false ↦ λ m. mathlib.Core.List.Memᴰ.tail (of-kept xs m)
+    ]
 
     pub apart-kept : (xs : List X) → Apart xs → Apart (filter f xs)
     apart-kept [] a = tt
-    apart-kept (y ∷ xs) a = ⊎_elim
-        (λ (e : f y ≡ true). rw e ((λ m. a.0 (of-kept xs m)), apart-kept xs a.1))
-        (λ (e : f y ≡ false). rw e (apart-kept xs a.1))
-        (cases_Bool (f y))
+    apart-kept (y ∷ xs) a = elim (f y) as (λ b. Apart (cond b (y ∷ filter f xs) (filter f xs))) [ true ↦ ((λ m. a.0 (of-kept xs m)), apart-kept xs a.1) | false ↦ apart-kept xs a.1 ]
 
   pub apart-append : (xs ys : List X) → Apart xs → Apart ys → ((x : X) → Memᴰ x xs → Memᴰ x ys → ⊥) → Apart (xs ++ ys)
   apart-append [] ys a b none = b
@@ -50,20 +47,12 @@ module _ {X : Type 0} where
 
 module _ {X Y : Type 0} (g : X → Y) where
   pub mem-map : (xs : List X) {x : X} → Memᴰ x xs → Memᴰ (g x) (map g xs)
-  mem-map [] m = absurd (mathlib.Core.List.Memᴰ.not-nil m)
-  mem-map (y ∷ xs) {x} m = ⊎_elim (λ (e : x ≡ y). mathlib.Core.List.Memᴰ.head (ap g e)) (λ (k : Memᴰ x xs). mathlib.Core.List.Memᴰ.tail (mem-map xs k)) (mathlib.Core.List.Memᴰ.cases_cons m)
-
-  pub of_map : (xs : List X) {y : Y} → Memᴰ y (map g xs) → (x : X) × Memᴰ x xs × (y ≡ g x)
-  of_map [] m = absurd (mathlib.Core.List.Memᴰ.not-nil m)
-  of_map (z ∷ xs) {y} m = ⊎_elim
-      (λ (e : y ≡ g z). (z, mathlib.Core.List.Memᴰ.head refl, e))
-      (λ (k : Memᴰ y (map g xs)). let (x, j, e) = of_map xs k in (x, mathlib.Core.List.Memᴰ.tail j, e))
-      (mathlib.Core.List.Memᴰ.cases_cons m)
+  mem-map xs m = mathlib.Core.List.Memᴰ.map g m
 
   -- where the map keeps the elements of a list apart
   pub apart-map : (xs : List X) → ((x y : X) → Memᴰ x xs → Memᴰ y xs → g x ≡ g y → x ≡ y) → Apart xs → Apart (map g xs)
   apart-map [] inj a = tt
   apart-map (x ∷ xs) inj a = (
-    (λ m. let (y, k, e) = of_map xs m in a.0 (mathlib.Core.List.Memᴰ.cast (inj x y (mathlib.Core.List.Memᴰ.head refl) (mathlib.Core.List.Memᴰ.tail k) e) k)),
+    (λ m. let (y, k, e) = mathlib.Core.List.Memᴰ.of_map g xs m in a.0 (mathlib.Core.List.Memᴰ.cast (inj x y (mathlib.Core.List.Memᴰ.head refl) (mathlib.Core.List.Memᴰ.tail k) (sym e)) k)),
     apart-map xs (λ y z m k. inj y z (mathlib.Core.List.Memᴰ.tail m) (mathlib.Core.List.Memᴰ.tail k)) a.1,
   )

@@ -39,10 +39,5 @@ pub fn check_ready(owed: &Bill) -> Result<(), Fault>
 fn first_wide(vars: u32, row: &[Literal]) -> Option<usize>
     ensures { result ≡ first_wide vars 0 row.now }
 {
-    for (i, literal) in row.iter().enumerate() {
-        if variable(*literal) >= vars {
-            return Some(i);
-        }
-    }
-    None
+    row.iter().position(|literal| variable(*literal) >= vars)
 }

@@ -1,4 +1,4 @@
-// Boards and lists as text.
+// Boards as text.
 use std::fmt;
 
 // A filled board, a line for each row.
@@ -27,40 +27,4 @@ fn draw_row<W: fmt::Write>(size: u8, queen: u8, f: &mut fmt::Formatter<W>) -> fm
         f.write_str(if column == queen { " Q" } else { " ." })?;
     }
     Ok(())
-}
-
-// Values one after another.
-#[derive(Drop)]
-pub struct Values<'a>(pub &'a [u8]);
-
-impl<'a> fmt::Display for Values<'a> {
-    fn fmt<W: fmt::Write>(&self, f: &mut fmt::Formatter<W>) -> fmt::Result {
-        for (i, value) in self.0.iter().enumerate() {
-            if i > 0 {
-                f.write_str(" ")?;
-            }
-            write!(f, "{value}")?;
-        }
-        Ok(())
-    }
-}
-
-// The indexes of the true values.
-#[derive(Drop)]
-pub struct Indexes<'a>(pub &'a [bool]);
-
-impl<'a> fmt::Display for Indexes<'a> {
-    fn fmt<W: fmt::Write>(&self, f: &mut fmt::Formatter<W>) -> fmt::Result {
-        let mut any = false;
-        for (i, value) in self.0.iter().enumerate() {
-            if *value {
-                if any {
-                    f.write_str(" ")?;
-                }
-                write!(f, "{i}")?;
-                any = true;
-            }
-        }
-        Ok(())
-    }
 }

@@ -5,7 +5,8 @@
 mod drawing;
 
 use anyhow::anyhow;
-use drawing::{Grid, Indexes, Values};
+use drawing::Grid;
+use itertools::Itertools;
 use puzzles::{Puzzle, Queens, bill, decode, encode, fill, first_false};
 use rows::count_true;
 
@@ -47,7 +48,7 @@ fn judge_filling<P: Puzzle>(rt: &HostRuntime, puzzle: &P, filling: &[u8]) -> any
         size: puzzle.size(),
         filling,
     };
-    let shown = Values(filling);
+    let shown = filling.iter().format(rt.alloc(), " ")?;
     println!(rt; "\nThe filling {shown}:\n{grid}")?;
     if puzzle.is_answer(filling) {
         println!(rt; "This is an answer.")?;
@@ -70,12 +71,15 @@ fn judge_filling<P: Puzzle>(rt: &HostRuntime, puzzle: &P, filling: &[u8]) -> any
 fn there_and_back<P: Puzzle>(rt: &HostRuntime, puzzle: &P, answer: &[u8]) -> anyhow::Result<()> {
     let mut values = vec![in rt.alloc(); false; puzzle.vars() as usize]?;
     encode(puzzle, answer, values.as_mut_slice())?;
-    let shown = Values(answer);
-    let trues = Indexes(values.as_slice());
+    let shown = answer.iter().format(rt.alloc(), " ")?;
+    let trues = values
+        .iter()
+        .positions(|value| *value)
+        .format(rt.alloc(), " ")?;
     println!(rt; "\nThe answer {shown} makes these variables true, and no others: {trues}.")?;
     let mut back = vec![in rt.alloc(); 0u8; puzzle.places()]?;
     decode(puzzle, values.as_slice(), back.as_mut_slice())?;
-    let shown = Values(back.as_slice());
+    let shown = back.iter().format(rt.alloc(), " ")?;
     println!(rt; "They read back as {shown}.")?;
     Ok(())
 }

@@ -32,6 +32,7 @@ impl Player {
             numbers.push(word.parse::<u64>()?)?;
         }
         print!(rt; "{line}: ")?;
+        // one arm for each word: a table of closures would say no more, and each call has its own numbers to read
         match call {
             "make" => self.make(rt, numbers.as_slice()),
             "open" => self.open(rt, numbers.as_slice()),
@@ -53,7 +54,7 @@ impl Player {
         }
         let room = usize::try_from(*room)?;
         self.solver = Backtracker::new(*kind, vec![in rt.alloc(); 7u16; room]?);
-        let got = self.solver.kind().number();
+        let got = u8::from(self.solver.kind());
         println!(rt; "kind {got}")?;
         Ok(())
     }
@@ -109,11 +110,8 @@ impl Player {
 
     fn show_current(&self, rt: &HostRuntime) -> anyhow::Result<()> {
         print!(rt; "found")?;
-        for i in 0..u32::MAX {
-            let Some(value) = self.solver.value(i) else {
-                break;
-            };
-            print!(rt; " {}", value as u8)?;
+        for value in (0..u32::MAX).map_while(|i| self.solver.value(i)) {
+            print!(rt; " {}", u8::from(value))?;
         }
         println!(rt; "")?;
         Ok(())

@@ -1,4 +1,4 @@
-// Handing a puzzle to a solver.
+// Handing a puzzle to a solver. That nothing else of the solver changes joins two moments, so each call promises it.
 ghost use Rattle.std.specs.Prelude.{◌≡◌, true, is_ok};
 ghost use Rattle.rows.specs.Bills.{bill_of};
 ghost use Rattle.rows.specs.declared.kinds.Kind.TheVariants.{Cover};
@@ -6,7 +6,7 @@ ghost use Rattle.solver.specs.Calls.{Kept, Opened};
 ghost use Rattle.puzzles.specs.Boards.{rows as board_rows, vars as board_vars};
 ghost use Rattle.verdict.specs.Counting.{Started, Starts};
 
-use puzzles::{Puzzle, bill};
+use puzzles::{Puzzle, bill, rows_of};
 use rows::{Fault, Kind, Stop};
 use solver::Solver;
 
@@ -35,11 +35,8 @@ fn post_rows<P: Puzzle, S: Solver>(puzzle: &P, solver: &mut S) -> Result<(), Fau
     ensures started { Started (P.Puzzle.board puzzle.now) (S.Solver.means solver.new) }
     ensures sound { S.Solver.sound solver.new }
 {
-    puzzle.lined();
-    for i in 0..puzzle.rows() {
-        if let Some(row) = puzzle.row(i) {
-            solver.post(row.literals())?;
-        }
+    for row in rows_of(puzzle) {
+        solver.post(row.literals())?;
     }
     Ok(())
 }

@@ -1,30 +1,23 @@
 // Checks of givens.
-ghost use Rattle.std.specs.Prelude.{◌≡◌, true, length};
-ghost use Rattle.puzzles.specs.Givens.{all_fit, all_given, first_outside};
+ghost use Rattle.std.specs.Prelude.{◌≡◌, ◌==◌, ◌<◌, All, length, not, position, slice_index};
+ghost use Rattle.std.specs.List.{list_all};
+ghost use Rattle.puzzles.specs.Givens.{fits};
 
 use crate::givens::Given;
 
 // The index of the first given that is not on a board of so many places and values.
 pub(crate) fn first_outside(size: usize, places: usize, givens: &[Given]) -> Option<usize>
-    ensures { result ≡ first_outside size places 0 givens.now }
+    ensures { result ≡ position (λ g. not (fits size places g)) givens.now }
 {
-    for (i, given) in givens.iter().enumerate() {
-        if given.place as usize >= places || given.value as usize >= size {
-            return Some(i);
-        }
-    }
-    None
+    givens.iter().position(|given| given.place as usize >= places || given.value as usize >= size)
 }
 
 // Whether every given stands in an answer of the board's places.
-pub(crate) fn all_given(size: usize, givens: &[Given], answer: &[u8]) -> bool
-    requires { all_fit size (length answer.now) givens.now ≡ true }
-    ensures { result ≡ all_given givens.now answer.now }
+pub(crate) fn all_given(givens: &[Given], answer: &[u8]) -> bool
+    requires { All (λ g. g.place < length answer.now) givens.now }
+    ensures { result ≡ list_all (λ g. slice_index answer.now g.place == g.value) givens.now }
 {
-    for given in givens {
-        if answer[given.place as usize] != given.value {
-            return false;
-        }
-    }
-    true
+    givens
+        .iter()
+        .all(|given| answer[given.place as usize] == given.value)
 }

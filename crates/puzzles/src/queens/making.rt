@@ -22,6 +22,7 @@ impl<'a> Queens<'a> {
 
     // Sets the size and the givens, which are lent, or refuses and leaves the puzzle as it was:
     // stop 1 for a size that is not 1 to 12, stop 2 for more than 256 givens, stop 4 for the first given off the board.
+    #[tactic(auto, using(crate::proofs::Chains::firsts))]
     pub fn make(&mut self, size: usize, givens: &'a [Given]) -> Result<(), Fault>
         ensures makes { Makes self.old self.new size givens.now result }
         ensures first { First (fits size size) givens.now (first_outside size size 0 givens.now) }

@@ -2,9 +2,8 @@
 ghost use Rattle.std.specs.Prelude.{◌≡◌, ◌+◌, ◌-◌, ◌*◌, ◌<◌, ◌≤◌};
 ghost use Rattle.puzzles.specs.Lines.{row_of};
 ghost use Rattle.puzzles.specs.QueensMade.{queens_of};
+ghost use Rattle.puzzles.specs.laws.QueensLined.{queens-lined};
 ghost use Rattle.puzzles.specs.Queens.{falling, largest, rising};
-ghost use Rattle.rows.specs.Buffers.{held};
-ghost use Rattle.rows.specs.Literals.{within};
 
 use crate::boards::Puzzle;
 use crate::checks::all_below;
@@ -14,46 +13,69 @@ use crate::queens::Queens;
 use crate::queens::standing::{all_apart, one_per_column};
 use rows::Row;
 
-// How many diagonals of one way have two cells or more.
-fn diagonals(n: u32) -> u32
-    requires { n ≤ largest }
-    ensures { result ≡ 2 * n - 3 }
-{
-    (2 * n).saturating_sub(3)
+// The side of a board, by which its diagonals are counted and written down.
+#[derive(Clone, Copy)]
+struct Side {
+    n: u32,
+    ghost small: { n ≤ largest },
 }
 
-// The row of the diagonal on which column - row is d - n, with its slack.
-fn falling_row(n: u32, d: u32, slack: u32) -> Row
-    requires { (n ≤ largest) × ((d < 2 * n) × (slack < within)) }
-    ensures { held result ≡ row_of n slack (falling n d) }
-{
-    let mut row = if d >= n {
-        run(d - n, n + 1, 2 * n - d)
-    } else {
-        run((n - d) * n, n + 1, d)
-    };
-    push_variable(&mut row, slack);
-    row
+impl Side {
+    // How many diagonals of one way have two cells or more.
+    fn diagonals(self) -> u32
+        ensures { result ≡ 2 * self.n - 3 }
+    {
+        (2 * self.n).saturating_sub(3)
+    }
+
+    // The row of falling diagonal i, on which column - row is i + 2 - n, with its slack.
+    fn falling_row(self, i: u32) -> Row
+        requires { i < 2 * self.n - 3 }
+        ensures { result ≡ row_of self.n (self.n * self.n + i) (falling self.n (i + 2)) }
+    {
+        let n = self.n;
+        let d = i + 2;
+        let mut row = if d >= n {
+            run(d - n, n + 1, 2 * n - d)
+        } else {
+            run((n - d) * n, n + 1, d)
+        };
+        push_variable(&mut row, n * n + i);
+        row
+    }
+
+    // The row of rising diagonal i, on which row + column is i + 1, with its slack.
+    fn rising_row(self, i: u32) -> Row
+        requires { i < 2 * self.n - 3 }
+        ensures { result ≡ row_of self.n (self.n * self.n + (2 * self.n - 3) + i) (rising self.n (i + 1)) }
+    {
+        let n = self.n;
+        let d = i + 1;
+        let mut row = if d < n {
+            run(d, n - 1, d + 1)
+        } else {
+            run((d - n + 1) * n + n - 1, n - 1, 2 * n - 1 - d)
+        };
+        push_variable(&mut row, n * n + self.diagonals() + i);
+        row
+    }
 }
 
-// The row of the diagonal on which row + column is d, with its slack.
-fn rising_row(n: u32, d: u32, slack: u32) -> Row
-    requires { (n ≤ largest) × ((d + 1 < 2 * n) × (slack < within)) }
-    ensures { held result ≡ row_of n slack (rising n d) }
-{
-    let mut row = if d < n {
-        run(d, n - 1, d + 1)
-    } else {
-        run((d - n + 1) * n + n - 1, n - 1, 2 * n - 1 - d)
-    };
-    push_variable(&mut row, slack);
-    row
+impl<'a> Queens<'a> {
+    // The side of its board.
+    fn side(&self) -> Side
+        ensures { result.n ≡ self.now.size }
+    {
+        Side {
+            n: u32::from(self.size),
+        }
+    }
 }
 
 impl<'a> Puzzle for Queens<'a> {
     ghost board = { queens_of };
 
-    fn lined(&self) {}
+    ghost lined = { λ q. queens-lined q.size q.givens.now q.made };
 
     fn size(&self) -> u8 {
         self.size
@@ -65,17 +87,18 @@ impl<'a> Puzzle for Queens<'a> {
 
     fn vars(&self) -> u32 {
         let n = self.size as u32;
-        n * n + 2 * diagonals(n)
+        n * n + 2 * self.side().diagonals()
     }
 
     fn rows(&self) -> u32 {
         let n = self.size as u32;
-        2 * n + 2 * diagonals(n) + self.givens.len() as u32
+        2 * n + 2 * self.side().diagonals() + self.givens.len() as u32
     }
 
     fn row(&self, index: u32) -> Option<Row> {
         let n = self.size as u32;
-        let ways = diagonals(n);
+        let side = self.side();
+        let ways = side.diagonals();
         if index < n {
             return Some(run(index * n, 1, n));
         }
@@ -84,23 +107,22 @@ impl<'a> Puzzle for Queens<'a> {
         }
         let i = index - 2 * n;
         if i < ways {
-            return Some(falling_row(n, i + 2, n * n + i));
+            return Some(side.falling_row(i));
         }
         if i < 2 * ways {
-            return Some(rising_row(n, i - ways + 1, n * n + i));
+            return Some(side.rising_row(i - ways));
         }
         let given = self.givens.get((i - 2 * ways) as usize)?;
         Some(run(given.place as u32 * n + given.value as u32, 1, 1))
     }
 
+    #[tactic(auto, using(crate::proofs::Chains::queens_checked))]
     fn is_answer(&self, answer: &[u8]) -> bool {
         let n = self.size as usize;
-        if answer.len() != n {
-            return false;
-        }
-        all_below(n, answer)
+        answer.len() == n
+            && all_below(n, answer)
             && one_per_column(n, answer)
             && all_apart(answer)
-            && all_given(n, self.givens, answer)
+            && all_given(self.givens, answer)
     }
 }

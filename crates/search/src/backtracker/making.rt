@@ -12,30 +12,25 @@ use crate::store::{Store, space_of};
 use rows::{Bill, Fault, Kind, Stop};
 
 impl Backtracker {
-    // The check before making: stop 14 where no kind has this number. All four kinds are offered.
+    // The check before making: stop 14 where no kind has this number. All four kinds are offered. A plain number, since one that
+    // is no kind has to be refusable.
     pub fn check_kind(kind: u64) -> Result<(), Fault>
         ensures { Unless (kind_stop kind) (Unit {0}) (Unit {0}) result }
     {
-        match Kind::from_number(kind) {
-            Some(_) => Ok(()),
-            None => Err(Fault::here(Stop::Make(kind))),
-        }
+        Kind::try_from(kind)?;
+        Ok(())
     }
 
-    // A new backtracker of the kind of this number, or of kind 1 where no kind has it. The workspace is its only memory.
+    // A new backtracker of the kind of this number, or of kind 1 where no kind has it: a plain number, since making is never refused. The workspace is its only memory.
     pub fn new(kind: u64, work: Vec<u16>) -> Backtracker
         ensures kind { (backtracks result).kind ≡ made_kind kind }
         ensures takes { (backtracks result).stop ≡ open_stop (made_kind kind) (vec_len work) }
         ensures fresh { Fresh (backtracks result) }
     {
-        let offered = Kind::from_number(kind).unwrap_or(Kind::Cover);
+        let offered = Kind::try_from(kind).unwrap_or(Kind::Cover);
         Backtracker {
             store: Store::new(offered, work),
             posture: Posture::Before,
-            effort: Effort {
-                nodes: 0,
-                visits: 0,
-            },
         }
     }
 
@@ -50,18 +45,14 @@ impl Backtracker {
     pub fn into_workspace(self) -> Vec<u16>
         ensures { result ≡ self.store.work }
     {
-        let Backtracker {
-            store,
-            posture: _,
-            effort: _,
-        } = self;
+        let Backtracker { store, .. } = self;
         store.into_workspace()
     }
 
     // How much it has worked since it was made. The numbers are for measurements, and no promise rests on them.
     pub fn effort(&self) -> Effort
-        ensures { result ≡ self.now.effort }
+        ensures { result ≡ self.now.store.effort }
     {
-        self.effort
+        self.store.effort
     }
 }

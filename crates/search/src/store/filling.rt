@@ -6,6 +6,7 @@ ghost use Rattle.solver.specs.Stops.{post_stop};
 ghost use Rattle.search.specs.Room.{open_stop, space};
 ghost use Rattle.search.specs.Stored.{AppendedTo, Emptied, stored};
 
+use crate::outcomes::Effort;
 use crate::store::Store;
 use rows::{Bill, Fault, Kind, Literal, Stop, VARIABLES};
 
@@ -14,6 +15,7 @@ pub(crate) fn space_of(bill: &Bill) -> u64
     ensures value { result ≡ space 0 bill.now.counts }
     ensures bound { result < 2 ^ 42 }
 {
+    // a loop, whose invariant bounds the sum: a chain has no place for that
     let mut space: u64 = 0;
     for (len, count) in bill.counts.iter().enumerate() {
         space += *count as u64 * (len as u64 + 1);
@@ -21,30 +23,22 @@ pub(crate) fn space_of(bill: &Bill) -> u64
     space
 }
 
-// Writes a row from a place on, as its length and its literals.
-fn write_row(work: &mut Vec<u16>, at: usize, row: &[Literal])
-    requires { (at + length row.now < vec_len work.old) × (length row.now < 65536) }
-    ensures items { take (at + length row.now + 1) work.new.items ≡ take at work.old.items ++ (length row.now ∷ row.now) }
-    ensures len { vec_len work.new ≡ vec_len work.old }
+// Writes a row from a place on, as its length and its literals. With a place, since of a part of a Vec that is lent nothing is
+// known afterwards.
+fn write_row(work: &mut [u16], at: usize, row: &[Literal])
+    requires fits { at + length row.now < length work.old }
+    requires short { length row.now < 65536 }
+    ensures { take (at + length row.now + 1) work.new ≡ take at work.old ++ (length row.now ∷ row.now) }
 {
     work[at] = row.len() as u16;
-    for (i, literal) in row.iter().enumerate() {
-        work[at + i + 1] = *literal;
-    }
+    work[at + 1..at + 1 + row.len()].copy_from_slice(row);
 }
 
 impl Store {
     pub(crate) fn into_workspace(self) -> Vec<u16>
         ensures { result ≡ self.work }
     {
-        let Store {
-            kind: _,
-            vars: _,
-            count: _,
-            end: _,
-            owed: _,
-            work,
-        } = self;
+        let Store { work, .. } = self;
         work
     }
 
@@ -63,6 +57,7 @@ impl Store {
             end: 0,
             owed: Bill::empty(),
             work,
+            effort: Effort::default(),
         }
     }
 
@@ -88,7 +83,7 @@ impl Store {
         requires { post_stop self.old.kind self.old.vars self.old.owed.counts row.now ≡ None }
         ensures { AppendedTo self.old self.new row.now }
     {
-        write_row(&mut self.work, self.end, row);
+        write_row(self.work.as_mut_slice(), self.end, row);
         self.end = self.end + row.len() + 1;
         self.count += 1;
         self.owed.counts[row.len()] -= 1;

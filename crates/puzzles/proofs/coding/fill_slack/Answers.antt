@@ -1,16 +1,10 @@
-use Rattle.std.proofs.Common.{◌≡◌, ◌*◌, ◌/◌, ◌<◌, refl, ap, ◌∙◌, subst, ⊎_elim, arith}
+use Rattle.std.proofs.Common.{◌≡◌, ◌/◌, ◌<◌, ap, ◌∙◌, subst, arith}
 use Rattle.std.specs.Result.{result_unwrap_or}
 use Rattle.std.specs.List.{AllByRecursion}
 use Rattle.rows.specs.Truth.{valuation, truths, trues}
 use Rattle.rows.specs.Judging.{counted}
-use Rattle.puzzles.proofs.Lasts.{all-last, last-is, last-not, others-count}
+use Rattle.puzzles.proofs.Lasts.{all-last, last-is, others-count}
 use Rattle.puzzles.proofs.coding.fill_slack.Goals as goal
-
-pub returns-in_default : goal.returns-in_default
-returns-in_default c = record {
-  plain = λ k. refl;
-  slack = λ others s e h l k. last-not c.args.row.now others (2 * s) c.in_default.ensures.cases e;
-}
 
 pub returns-then-slack-values : goal.returns-then-slack-values
 returns-then-slack-values c =
@@ -24,15 +18,4 @@ returns-then-slack-values c =
           let v : c.variable-slack.result ≡ s = c.variable-slack.ensures ∙ q.1 in
           let t : c.unwrap_or-trues.result ≡ trues (truths (valuation c.args.values.now) others) = c.unwrap_or-trues.ensures ∙ (ap (λ r. result_unwrap_or r 0) (c.count_true.ensures.value ∙ ap (counted c.args.values.now) q.0) ∙ others-count c.args.cells c.args.values.now others (omega arith) k) in
           cc;
-    }
-
-pub returns-else-slack-cells : goal.returns-else-slack-cells
-returns-else-slack-cells c =
-    let whole = c.in-Some.ensures.cases.0 in
-    record {
-      plain = λ k. refl;
-      slack = λ others s e h l k.
-          let q = (last-is c.args.row.now others c.in-Some.others.now c.in-Some.last.now s whole e).1 in
-          let v = c.variable-slack.ensures in
-          ⊎_elim (λ p. absurd (omega arith)) (λ p. absurd (omega arith)) c.else-slack-cells.either;
     }

@@ -1,4 +1,4 @@
-use Rattle.std.proofs.Common.{ℕ, ◌+◌, Err, sym, ap, ◌∙◌, subst, arith}
+use Rattle.std.proofs.Common.{◌+◌, Err, sym, ap, ◌∙◌, subst, arith}
 use Rattle.std.proofs.lemmas.Bool.Decides.{nat_tests}
 use Rattle.rows.proofs.Scans.{first-is-first}
 use Rattle.rows.proofs.Positions.{Counting, counting-start, counting-step, counting-stop, counting-end}
@@ -11,11 +11,7 @@ loop-i-init c = counting-start c.args.values.now c.args.row.now
 pub loop-i-preserved : goal.loop-i-preserved
 loop-i-preserved c =
     let k = counting-step c.args.values.now c.args.row.now c.loop-i.i c.loop-i.trues c.in-Some.holds (omega arith) (sym c.truth.ensures ∙ c.in-Some.is) c.loop-i.invariant in
-    let P : ℕ → Type 0 = λ n. Counting c.args.values.now c.args.row.now (c.loop-i.i + 1) n in
-    elim c.if-holds.branch [
-      | then-holds w ↦ subst P (grind (arith, nat_tests)) k
-      | else-holds w ↦ subst P (grind (arith, nat_tests)) k
-    ]
+    subst (Counting c.args.values.now c.args.row.now (c.loop-i.i + 1)) (grind (arith, nat_tests)) k
 
 pub returns : goal.returns
 returns c = record {

@@ -1,22 +1,19 @@
-use Rattle.std.proofs.Common.{arith, rules}
+use Rattle.std.proofs.Common.{arith, rules, ◌∙◌}
 use Rattle.std.proofs.lemmas.Bool.Decides.{nat_tests}
-use Rattle.rows.proofs.Scans.{first-is-first}
+use Rattle.puzzles.specs.Givens.{fits}
+use Rattle.rows.proofs.Scans.{first-is-position}
 use Rattle.puzzles.proofs.GivenScans.{outside-fit}
 use Rattle.puzzles.proofs.queens.Queens.make.Goals as goal
 
 pub invariant_of-self : goal.invariant_of-self
 invariant_of-self c =
-    let e = outside-fit c.args.size c.args.size 0 c.args.givens.now c.in_default.ensures in
+    let n = c.args.size in
+    let gs = c.args.givens.now in
+    let e = outside-fit n n 0 gs (c.in_default.ensures ∙ first-is-position (fits n n) gs) in
     record { made = grind (arith, nat_tests) }
 
-pub returns-then-size-lt1 : goal.returns-then-size-lt1
-returns-then-size-lt1 c = record { makes = search rules; first = first-is-first _ c.args.givens.now }
+pub returns-in-Some-clause-makes : goal.returns-in-Some-clause-makes
+returns-in-Some-clause-makes c = let e = first-is-position (fits c.args.size c.args.size) c.args.givens.now in search rules
 
-pub returns-then-givens-gt-ENTRIES : goal.returns-then-givens-gt-ENTRIES
-returns-then-givens-gt-ENTRIES c = record { makes = search rules; first = first-is-first _ c.args.givens.now }
-
-pub returns-in-Some : goal.returns-in-Some
-returns-in-Some c = record { makes = search rules; first = first-is-first _ c.args.givens.now }
-
-pub returns : goal.returns
-returns c = record { makes = search rules; first = first-is-first _ c.args.givens.now }
+pub returns-clause-makes : goal.returns-clause-makes
+returns-clause-makes c = let e = first-is-position (fits c.args.size c.args.size) c.args.givens.now in search rules

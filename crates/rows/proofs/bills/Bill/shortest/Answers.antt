@@ -1,19 +1,12 @@
-use Rattle.std.proofs.Common.{eqb, sym, arith}
-use Rattle.std.proofs.lemmas.Bool.Decides.{nat_tests}
-use Rattle.rows.proofs.Scans.{first-is-first, scan-more, scan-found, scan-none}
+use Rattle.std.proofs.Common.{rules, tests, eqb, not, ◌∙◌}
+use Rattle.std.proofs.lemmas.Iterator.{YieldsList-from_slice}
+use Rattle.std.proofs.lemmas.Iterator.Search.{position_from_yields_List}
+use Rattle.rows.proofs.Scans.{first-is-first, first-is-position}
 use Rattle.rows.proofs.bills.Bill.shortest.Goals as goal
 
-pub returns-then-count-gt0 : goal.returns-then-count-gt0
-returns-then-count-gt0 c = record {
-  value = sym (scan-found (λ n. eqb n 0) c.args.self.now.counts c.loop-len.len c.loop-len.invariant 0 (omega arith) (grind (arith, nat_tests)));
-  first = first-is-first _ c.args.self.now.counts;
-}
+pub returns-clause-value : goal.returns-clause-value
+returns-clause-value c =
+    position_from_yields_List (λ n. not (eqb n 0)) _ _ _ c.position.ensures.ran (YieldsList-from_slice c.args.self.now.counts cc) (λ n b q k. search (rules, tests)) ∙ first-is-position (λ n. eqb n 0) c.args.self.now.counts
 
-pub loop-len-preserved : goal.loop-len-preserved
-loop-len-preserved c = scan-more (λ n. eqb n 0) c.args.self.now.counts c.loop-len.len c.loop-len.invariant 0 (omega arith) (grind (arith, nat_tests))
-
-pub returns : goal.returns
-returns c = record {
-  value = sym (scan-none (λ n. eqb n 0) c.args.self.now.counts c.loop-len.len c.loop-len.invariant (omega arith));
-  first = first-is-first _ c.args.self.now.counts;
-}
+pub returns-clause-first : goal.returns-clause-first
+returns-clause-first c = first-is-first _ c.args.self.now.counts

@@ -1,15 +1,11 @@
-use Rattle.std.proofs.Common.{refl, arith, rules}
-use Rattle.search.specs.Packed.{write-start, write_step, write-end}
+use Rattle.std.proofs.Common.{ℕ, ◌+◌, List, [], ◌∷◌, ◌++◌, length, take, slice_set, ap₂, ◌∙◌, append_assoc, rules}
+use Rattle.std.proofs.lemmas.List.{take_more_set}
+use Rattle.std.proofs.lemmas.Slice.{take-put_mid}
 use Rattle.search.proofs.store.filling.write_row.Goals as goal
 
-pub loop-i-init : goal.loop-i-init
-loop-i-init c = (write-start c.args.work.now.items c.args.at _ (search rules), refl)
-
-pub loop-i-preserved : goal.loop-i-preserved
-loop-i-preserved c = (write_step c.loop-i.work.items _ c.args.row.now c.args.at c.loop-i.i (search rules) (search rules) c.loop-i.invariant.0, c.loop-i.invariant.1)
-
 pub returns : goal.returns
-returns c = record {
-  items = write-end c.loop-i.work.items c.args.work.now.items c.args.row.now c.args.at c.loop-i.i _ (omega arith) c.loop-i.invariant.0;
-  len = c.loop-i.invariant.1;
-}
+returns c =
+    let k : ℕ = length c.args.row.now in
+    take-put_mid (c.args.at + 1) _ (slice_set c.args.work.now c.args.at k) c.copy_from_slice.new.self (c.args.at + k + 1) (search rules) (search rules)
+    ∙ (ap₂ (λ (xs ys : List ℕ). xs ++ ys) (take_more_set c.args.work.now c.args.at k (search rules)) (search rules)
+    ∙ append_assoc (take c.args.at c.args.work.now) (k ∷ []) c.args.row.now)

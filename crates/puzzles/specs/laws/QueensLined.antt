@@ -1,0 +1,136 @@
+-- The lines of queens say what an answer is.
+use Rattle.std.proofs.Common.{◌≡◌, ℕ, ◌+◌, ◌-◌, ◌*◌, ◌<◌, Bool, true, not, ◌&&◌, eqb, ltb, leb, List, ◌++◌, map, length, get_or, sym, refl, ap, ◌∙◌, arith}
+use Rattle.std.specs.List.{range_with_len, AllByRecursion}
+use Rattle.std.proofs.ByRecursion.{All-append, all_kept_by}
+use Rattle.std.proofs.lemmas.Bool.{and_parts, and_from, eqb-true, ltb-true}
+use Rattle.std.proofs.lemmas.Bool.Decides.{nat_tests}
+use Rattle.puzzles.specs.declared.givens.Given.{Given}
+use Rattle.puzzles.specs.Lines.{On, Inside, at, hits, met, all_met, place_lines}
+use Rattle.puzzles.specs.Boards.{Lined}
+use Rattle.puzzles.specs.Words.{every, times}
+use Rattle.puzzles.specs.Givens.{most_entries, all_given, given_line, all_fit}
+use Rattle.puzzles.specs.Queens.{aligned, queens_answer, all_cells, column, falling, rising, queens_lines, queens, largest, makeable}
+use Rattle.puzzles.specs.laws.Every.{same_tests, same_after, every-elim, every-two-intro, every-two-elim, every-same, all_met-append, all_met-intro, all_met-elim, all_met-every}
+use Rattle.puzzles.specs.laws.Hits.{place_lines-met, hits-times, one-taken}
+use Rattle.puzzles.specs.laws.Insides.{all-counting, all-map-counting, all-joined, place-on, place_lines-inside}
+use Rattle.puzzles.specs.laws.DiagonalCells.{falling-cells, rising-cells}
+use Rattle.puzzles.specs.laws.GivenLines.{given-lines-met, given-lines-inside}
+
+-- every cell is on the board
+all-on : (n : ℕ) → AllByRecursion (On n n) (all_cells n)
+all-on n = all-joined (On n n) (λ p. map (at p) (range_with_len 0 n)) (range_with_len 0 n) (all-counting (λ p. AllByRecursion (On n n) (map (at p) (range_with_len 0 n))) 0 n (λ p l u. place-on n n p (omega arith)))
+
+-- and so are the lines
+lines-inside : (n : ℕ) (gs : List Given) → all_fit n n gs ≡ true → AllByRecursion (Inside n n) (queens_lines n gs)
+lines-inside n gs e =
+    let P = Inside n n in
+    let r = map (rising n) (range_with_len 1 (2 * n - 3)) ++ map given_line gs in
+    let f = map (falling n) (range_with_len 2 (2 * n - 3)) ++ r in
+    All-append P (place_lines n n) (map (column n) (range_with_len 0 n) ++ f) (place_lines-inside n n)
+    (All-append P (map (column n) (range_with_len 0 n)) f (all-map-counting P (column n) 0 n (λ c l u. all-map-counting (On n n) (λ p. at p c) 0 n (λ p k v. (omega arith, omega arith))))
+    (All-append P (map (falling n) (range_with_len 2 (2 * n - 3))) r (all-map-counting P (falling n) 2 (2 * n - 3) (λ d l u. all_kept_by (λ c. eqb (c.value + n) (c.place + d)) (On n n) (all_cells n) (all-on n)))
+    (All-append P (map (rising n) (range_with_len 1 (2 * n - 3))) (map given_line gs) (all-map-counting P (rising n) 1 (2 * n - 3) (λ d l u. all_kept_by (λ c. eqb (c.place + c.value) d) (On n n) (all_cells n) (all-on n)))
+    (given-lines-inside n n gs e))))
+
+-- a column is met where its number stands once
+columns-met : (a : List ℕ) (n : ℕ) → length a ≡ n → all_met a (map (column n) (range_with_len 0 n)) ≡ every n (λ c. eqb (times c a) 1)
+columns-met a n e = all_met-every a (column n) n ∙ every-same n (λ c. met a (column n c)) (λ c. eqb (times c a) 1) (λ c h. ap (λ m. eqb m 1) (hits-times a n c e))
+
+-- whether the queen of row p is on falling diagonal d
+abbrev on_falling : ℕ → List ℕ → ℕ → ℕ → Bool
+on_falling n a d p = eqb (get_or a p 0 + n) (p + d)
+
+-- whether the queen of row p is on rising diagonal d
+abbrev on_rising : List ℕ → ℕ → ℕ → Bool
+on_rising a d p = eqb (p + get_or a p 0) d
+
+-- boards with the queen of each row on them
+module _ (n : ℕ) (a : List ℕ) (below : (p : ℕ) → p < n → get_or a p 0 < n) where
+  -- a falling diagonal is met where no two queens are on it
+  falling-met : (d : ℕ) → met a (falling n d) ≡ every n (λ j. every j (λ i. not (on_falling n a d i && on_falling n a d j)))
+  falling-met d =
+      ap (λ cs. leb (hits a cs) 1) (falling-cells n d)
+      ∙ one-taken a (λ p. leb n (p + d) && ltb (p + d) (n + n)) (λ p. at p (p + d - n)) (on_falling n a d) n (λ p h. let x = below p h in grind (arith, nat_tests))
+
+  -- and so is a rising one
+  rising-met : (d : ℕ) → met a (rising n d) ≡ every n (λ j. every j (λ i. not (on_rising a d i && on_rising a d j)))
+  rising-met d =
+      ap (λ cs. leb (hits a cs) 1) (rising-cells n d)
+      ∙ one-taken a (λ p. leb p d && ltb (d - p) n) (λ p. at p (d - p)) (on_rising a d) n (λ p h. let x = below p h in grind (arith, nat_tests))
+
+  -- where no two queens are aligned, every falling diagonal is met
+  apart-falling : every n (λ j. every j (λ i. not (aligned a i j))) ≡ true → (d : ℕ) → met a (falling n d) ≡ true
+  apart-falling e d = falling-met d ∙ every-two-intro n (λ i j. not (on_falling n a d i && on_falling n a d j)) (λ i j l h. let q = every-two-elim n (λ i j. not (aligned a i j)) e i j l h in grind (arith, nat_tests))
+
+  -- and every rising one
+  apart-rising : every n (λ j. every j (λ i. not (aligned a i j))) ≡ true → (d : ℕ) → met a (rising n d) ≡ true
+  apart-rising e d = rising-met d ∙ every-two-intro n (λ i j. not (on_rising a d i && on_rising a d j)) (λ i j l h. let q = every-two-elim n (λ i j. not (aligned a i j)) e i j l h in grind (arith, nat_tests))
+
+  -- where the falling lines are met, no two queens are aligned that way
+  falling-apart : all_met a (map (falling n) (range_with_len 2 (2 * n - 3))) ≡ true → (i j : ℕ) → i < j → j < n → get_or a i 0 + j ≡ get_or a j 0 + i → ⊥
+  falling-apart e i j l h q =
+      let x = below j h in
+      let d = get_or a i 0 + n - i in
+      let m = all_met-elim a (falling n) 2 (2 * n - 3) e d (omega arith) (omega arith) in
+      let r = every-two-elim n (λ i j. not (on_falling n a d i && on_falling n a d j)) (sym (falling-met d) ∙ m) i j l h in
+      grind (arith, nat_tests)
+
+  -- and likewise for the rising lines
+  rising-apart : all_met a (map (rising n) (range_with_len 1 (2 * n - 3))) ≡ true → (i j : ℕ) → i < j → j < n → get_or a i 0 + i ≡ get_or a j 0 + j → ⊥
+  rising-apart e i j l h q =
+      let x = below i (omega arith) in
+      let d = i + get_or a i 0 in
+      let m = all_met-elim a (rising n) 1 (2 * n - 3) e d (omega arith) (omega arith) in
+      let r = every-two-elim n (λ i j. not (on_rising a d i && on_rising a d j)) (sym (rising-met d) ∙ m) i j l h in
+      grind (arith, nat_tests)
+
+  -- no two queens are aligned where all diagonals are met
+  diagonals-met : every n (λ j. every j (λ i. not (aligned a i j))) ≡ (all_met a (map (falling n) (range_with_len 2 (2 * n - 3))) && all_met a (map (rising n) (range_with_len 1 (2 * n - 3))))
+  diagonals-met =
+      let f = all_met a (map (falling n) (range_with_len 2 (2 * n - 3))) in
+      let r = all_met a (map (rising n) (range_with_len 1 (2 * n - 3))) in
+      same_tests (every n (λ j. every j (λ i. not (aligned a i j)))) (f && r)
+      (λ e. and_from f r (all_met-intro a (falling n) 2 (2 * n - 3) (λ d l u. apart-falling e d)) (all_met-intro a (rising n) 1 (2 * n - 3) (λ d l u. apart-rising e d)))
+      (λ e. every-two-intro n (λ i j. not (aligned a i j)) (λ i j l h.
+      let p = falling-apart (and_parts f r e).0 i j l h in
+      let q = rising-apart (and_parts f r e).1 i j l h in
+      grind (arith, nat_tests)))
+
+-- the lines are met where those of each kind are
+lines-met : (n : ℕ) (gs : List Given) (a : List ℕ) → all_met a (queens_lines n gs) ≡ (every n (λ i. ltb (get_or a i 0) n) && (all_met a (map (column n) (range_with_len 0 n)) && (all_met a (map (falling n) (range_with_len 2 (2 * n - 3))) && (all_met a (map (rising n) (range_with_len 1 (2 * n - 3))) && all_met a (map given_line gs)))))
+lines-met n gs a = simp (all_met-append, place_lines-met)
+
+-- the diagonals of both ways as one test
+regroup : (b f r g : Bool) → (b && ((f && r) && g)) ≡ (b && (f && (r && g)))
+regroup b f r g = grind (arith, nat_tests)
+
+-- the answers are the lists of values that meet every line
+answers-meet : (n : ℕ) (gs : List Given) (a : List ℕ) → queens_answer n gs a ≡ (eqb (length a) n && all_met a (queens_lines n gs))
+answers-meet n gs a =
+    let rows = every n (λ i. ltb (get_or a i 0) n) in
+    let c = all_met a (map (column n) (range_with_len 0 n)) in
+    let f = all_met a (map (falling n) (range_with_len 2 (2 * n - 3))) in
+    let r = all_met a (map (rising n) (range_with_len 1 (2 * n - 3))) in
+    let g = all_met a (map given_line gs) in
+    let own = every n (λ c. eqb (times c a) 1) && (every n (λ j. every j (λ i. not (aligned a i j))) && all_given gs a) in
+    same_after (eqb (length a) n) (rows && own) (all_met a (queens_lines n gs)) (λ e.
+    same_after rows own (c && (f && (r && g))) (λ h.
+    let p = columns-met a n (eqb-true (length a) n e) in
+    let q = diagonals-met n a (λ p l. ltb-true (get_or a p 0) n (every-elim n (λ i. ltb (get_or a i 0) n) h p l)) in
+    let s = given-lines-met a gs in
+    let t = regroup c f r g in
+    cc)
+    ∙ sym (lines-met n gs a))
+
+-- queens as lines
+pub queens-lined : (n : ℕ) (gs : List Given) → makeable n gs ≡ true → Lined (queens n gs)
+queens-lined n gs e =
+    let p = and_parts (leb 1 n) (leb n largest && (leb (length gs) most_entries && all_fit n n gs)) e in
+    let q = and_parts (leb n largest) (leb (length gs) most_entries && all_fit n n gs) p.1 in
+    let r = and_parts (leb (length gs) most_entries) (all_fit n n gs) q.1 in
+    record {
+      rest = map (column n) (range_with_len 0 n) ++ (map (falling n) (range_with_len 2 (2 * n - 3)) ++ (map (rising n) (range_with_len 1 (2 * n - 3)) ++ map given_line gs));
+      starts = refl;
+      inside = lines-inside n gs r.1;
+      meets = answers-meet n gs;
+    }

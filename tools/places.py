@@ -78,7 +78,7 @@ def facts():
             m = re.match(r"\s*(?:pub(?:\(crate\))? )?fn (\w+)", line)
             if m:
                 name = m.group(1)
-            m = re.match(r"\s*(?:requires|ensures)\*?(?: \w+)? \{ (.*) \}$", line)
+            m = re.match(r"\s*(?:requires|ensures)\*?(?: \w+)? \{ (.*) \};?$", line)
             for part in re.split(r"\)? × \(?", m.group(1)) if m else []:
                 at[re.sub(r"\.(now|old|new)\b", "", re.sub(r"^\(+|\)+$", "", part.strip()))].add(f"{f[7:]} {name}")
     return [f"{fact}   in {len(names)}: {', '.join(sorted(names))}" for fact, names in sorted(at.items()) if len(names) >= 3]
@@ -128,7 +128,7 @@ show(2, "pairs of functions of nearly the same words", twins())
 show(3, "loops", grep(r"^\s*(for|while|loop)\b"))
 show(3, "loops that only look for an element or count", scans())
 show(3, "loops with while or loop", grep(r"^\s*(while|loop)\b"))
-show(3, "loops over numbers", grep(r"^\s*for .* in .*\.\."))
+show(3, "loops over numbers", grep(r"^\s*for .* in (?!.*\[)[^\[]*\.\."))
 show(3, "counters kept by hand", grep(r"\b\w+ [+-]= 1;"))
 show(4, "functions that compare, copy, convert, number, name or print",
      grep(r"\bfn (eq|ne|cmp|partial_cmp|clone|hash|fmt|from|try_from|default|number|name|(from|into|to)_\w+)\b"))
@@ -136,7 +136,9 @@ show(4, "matches with an arm for each of many variants", grep(r"^\s*\w+::\w+(\(\
 show(5, "facts in three contracts or more", facts())
 show(5, "groups of three parameters or more in three functions or more", groups())
 show(6, "structs of a buffer with a number beside", beside())
-show(6, "functions that take a buffer and an index into it", grep(r"\bfn .*&(mut )?\[\w+\].*\b(at|vars|count|end|len|size): usize|\bfn .*\b(at|vars|count|end|len|size): usize.*&(mut )?\[\w+\]"))
+show(6, "functions that take a buffer and a place or a size in it", [
+    f"{f[7:]} {name}" for f, name, params, _ in functions()
+    if re.search(r"&(mut )?(\[\w+\]|Vec<)", params) and re.search(r"\b\w+: usize", params)])
 show(7, "function pointers, dyn, tables", grep(r"\bfn\(|\bdyn\b|: \[fn"))
 show(7, "steps chosen by a word or a number", grep(r"^\s*(\"\w+\"|\d+) => "))
 answers = sorted(glob.glob("crates/*/proofs/**/*.antt", recursive=True))

@@ -21,6 +21,7 @@ fn measure(rt: &HostRuntime, size: usize) -> anyhow::Result<()> {
     let mut queens = Queens::new();
     queens.make(size, &[])?;
     let room = Backtracker::room(queens.vars(), &bill(&queens));
+    // kind 1, of which the rows of puzzles are
     let mut solver = Backtracker::new(1, vec![in rt.alloc(); 0u16; room as usize]?);
     let (answers, _) = count(&queens, &mut solver, u64::MAX)?;
     let effort = solver.effort();

@@ -32,6 +32,7 @@ pub fn first_false<P: Puzzle>(puzzle: &P, values: &[bool]) -> Result<Option<u32>
     if values.len() != puzzle.vars() as usize {
         return Err(Fault::here(Stop::Length(values.len() as u64)));
     }
+    // a loop, since `?` leaves it
     for (i, row) in rows_of(puzzle).enumerate() {
         if !judge(Kind::Cover, values, row.literals())? {
             return Ok(Some(i as u32));

@@ -12,6 +12,7 @@ pub(crate) fn push_variable(row: &mut Row, variable: u32)
     requires narrow { variable < within }
     ensures { row.new ≡ row.old ++ (2 * variable) ∷ [] }
 {
+    // and not `positive`, which would ask again whether the variable is narrow
     let _ = row.push((2 * variable) as Literal);
 }
 

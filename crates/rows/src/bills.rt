@@ -12,7 +12,7 @@ pub const ROWS: u32 = 65_535;
 
 // A bill has a count for each length; count k is the number of rows of k literals still to be posted.
 // A count may be over the limit of 65,535: then no solver takes the bill.
-#[derive(Clone, Copy, PartialEq, Eq, Debug)]
+#[derive(Clone, Copy, Debug)]
 pub struct Bill {
     pub counts: [u32; LENGTHS],
 }

@@ -40,10 +40,12 @@ impl Row {
         }
     }
 
-    // One literal more; false where the row has the most that a row may have, and then it stays as it is.
+    // One literal more; false where the row has the most that a row may have, and then it stays as it is. There is no other reason
+    // to give, so this is no Result.
     pub fn push(&mut self, literal: Literal) -> bool
         ensures room { result ≡ nat_lt (length self.old) longest }
         ensures after { self.new ≡ (if result then self.old ++ literal ∷ [] else self.old) }
+        ensures short { length self.new ≤ longest }
     {
         if self.len >= LONGEST {
             return false;

@@ -23,7 +23,7 @@ pub fn count_true(values: &[bool], row: &[Literal]) -> Result<usize, Fault>
     ensures value { result ≡ counted values.now row.now }
     ensures first { First (λ l. nat_lt (l / 2) (length values.now)) row.now (first_wide (length values.now) 0 row.now) }
 {
-    // a loop with the index, as the rules have it: it counts and stops at a position, which no chain says more plainly
+    // a loop with the index, as the rules count at positions: it counts and stops at one, which no chain says more plainly
     let mut trues: usize = 0;
     for (i, literal) in row.iter().enumerate() {
         let Some(holds) = truth(values, *literal) else {

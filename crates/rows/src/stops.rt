@@ -71,7 +71,7 @@ pub struct Fault {
 }
 
 impl Fault {
-    // A refusal by whoever was called. Named, since a `From` would not say that the depth is 0.
+    // A refusal by whoever was called. Named, since a `From` would not say at the call that the depth is 0.
     pub fn here(stop: Stop) -> Fault
         ensures { result ≡ here stop }
     {

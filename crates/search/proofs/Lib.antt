@@ -1,4 +1,5 @@
 pub mod Passes
+pub mod Workspaces
 pub mod Spaces
 pub mod Reslotting
 pub mod Moving

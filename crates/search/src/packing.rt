@@ -6,7 +6,7 @@ ghost use Rattle.search.specs.Layout.{packed, rows_in};
 use rows::Literal;
 
 // The rows that are left, of literals of so many variables. A workspace is plain numbers by the rules, so what they are is said
-// beside them.
+// beside them. No Model: its readers want to know that each literal is narrow, which the list of rows would not say.
 #[derive(Clone, Copy)]
 pub(crate) struct PackedRows<'a> {
     pub(crate) vars: usize,
@@ -23,9 +23,6 @@ impl<'a> Iterator for PackedRows<'a> {
     ghost remaining = { item_count (λ rows. rows_in rows.left rows.words.now) };
 
     fn next(&mut self) -> Option<&'a [Literal]> {
-        if self.left == 0 {
-            return None;
-        }
         let (len, others) = self.words.split_first()?;
         let (row, words) = others.split_at(*len as usize);
         self.words = words;

@@ -14,7 +14,8 @@ pub trait Solver {
     ghost means: { Self → Meaning };
 
     // Whether its promises about rows and solutions hold: from making on, or from an accepted open on. A solver may be handed
-    // over in any other state, as a reduction set upon a solver that is in use; open works there too.
+    // over in any other state, as a reduction set upon a solver that is in use; open works there too. That each call keeps them
+    // joins two moments, so each says it.
     ghost sound: { Self → Type 0 };
 
     // What makes a row true; fixed when the solver is made.

@@ -1,7 +1,7 @@
 // Boards as text.
 use std::fmt;
 
-// A filled board, a line for each row.
+// A filled board, a new line for each row.
 #[derive(Drop)]
 pub struct Grid<'a> {
     pub size: u8,
@@ -10,11 +10,8 @@ pub struct Grid<'a> {
 
 impl<'a> fmt::Display for Grid<'a> {
     fn fmt<W: fmt::Write>(&self, f: &mut fmt::Formatter<W>) -> fmt::Result {
-        for (i, queen) in self.filling.iter().enumerate() {
-            if i > 0 {
-                f.write_str("\n")?;
-            }
-            f.write_str(" ")?;
+        for queen in self.filling {
+            f.write_str("\n ")?;
             draw_row(self.size, *queen, f)?;
         }
         Ok(())

@@ -31,7 +31,7 @@ fn tour(rt: &HostRuntime) -> anyhow::Result<()> {
     refusals(rt, &mut queens)
 }
 
-// What the board comes to as rows.
+// What the board comes to as rows; in words of its own, so the like line of the program `boards` is not shared.
 fn introduce<P: Puzzle>(rt: &HostRuntime, puzzle: &P) -> anyhow::Result<()> {
     let vars = puzzle.vars();
     let rows = puzzle.rows();
@@ -49,7 +49,7 @@ fn judge_filling<P: Puzzle>(rt: &HostRuntime, puzzle: &P, filling: &[u8]) -> any
         filling,
     };
     let shown = filling.iter().format(rt.alloc(), " ")?;
-    println!(rt; "\nThe filling {shown}:\n{grid}")?;
+    println!(rt; "\nThe filling {shown}:{grid}")?;
     if puzzle.is_answer(filling) {
         println!(rt; "This is an answer.")?;
     } else {

@@ -1,6 +1,6 @@
 // One call after another on a backtracker.
 use anyhow::anyhow;
-use rows::{Bill, Kind};
+use rows::{Bill, Fault};
 use search::Backtracker;
 use solver::{Drawn, Solver};
 use std::alloc::Global;
@@ -73,11 +73,7 @@ impl Player {
                 }
             }
         }
-        match self.solver.open(u32::try_from(*vars)?, &bill) {
-            Ok(()) => println!(rt; "ok")?,
-            Err(fault) => println!(rt; "{fault}")?,
-        }
-        Ok(())
+        show(rt, self.solver.open(u32::try_from(*vars)?, &bill))
     }
 
     // post LITERAL ..
@@ -86,11 +82,7 @@ impl Player {
         for number in numbers {
             row.push(u16::try_from(*number)?)?;
         }
-        match self.solver.post(row.as_slice()) {
-            Ok(()) => println!(rt; "ok")?,
-            Err(fault) => println!(rt; "{fault}")?,
-        }
-        Ok(())
+        show(rt, self.solver.post(row.as_slice()))
     }
 
     // next, with the value of each variable, 1 for true, of what was found.
@@ -134,4 +126,13 @@ impl Player {
         println!(rt; "ok")?;
         Ok(())
     }
+}
+
+// What a call that gives nothing back was answered.
+fn show(rt: &HostRuntime, answer: Result<(), Fault>) -> anyhow::Result<()> {
+    match answer {
+        Ok(()) => println!(rt; "ok")?,
+        Err(fault) => println!(rt; "{fault}")?,
+    }
+    Ok(())
 }

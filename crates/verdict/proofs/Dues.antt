@@ -1,18 +1,18 @@
 -- The bill of the rows still to be posted, as each post makes it shorter.
-use Rattle.std.proofs.Common.{◌≡◌, ℕ, zero, suc, ◌-◌, ◌<◌, false, cond, eqb, List, [], ◌∷◌, length, get_or, set, sym, ◌∙◌, arith}
+use Rattle.std.proofs.Common.{◌≡◌, ℕ, ◌-◌, ◌<◌, false, cond, eqb, List, ◌∷◌, length, get_or, set, sym, ◌∙◌, ⊎_elim, arith}
+use Rattle.std.proofs.lemmas.Bool.{cases_eq}
 use Rattle.std.proofs.lemmas.Bool.Decides.{nat_tests}
-use Rattle.std.proofs.lemmas.List.{ext_get_or, length-set}
+use Rattle.std.proofs.lemmas.List.{ext_get_or, get_or-set_same, get_or-set_other, length-set}
 use Rattle.rows.specs.Kinds.{lengths}
 use Rattle.rows.specs.Bills.{bill_of}
 use Rattle.rows.proofs.Tallies.{bill-at, bill-length}
 
 -- one less at a place of a list
 set-less : (xs : List ℕ) (i k : ℕ) → i < length xs → get_or (set xs i (get_or xs i 0 - 1)) k 0 ≡ get_or xs k 0 - cond (eqb i k) 1 0
-set-less [] i k h = absurd (omega arith)
-set-less (x ∷ xs) zero zero h = grind (arith, nat_tests)
-set-less (x ∷ xs) zero (suc k) h = grind (arith, nat_tests)
-set-less (x ∷ xs) (suc i) zero h = grind (arith, nat_tests)
-set-less (x ∷ xs) (suc i) (suc k) h = let e = set-less xs i k (omega arith) in grind (arith, nat_tests)
+set-less xs i k h = ⊎_elim
+    (λ (e : k ≡ i). rw (e, get_or-set_same xs i (get_or xs i 0 - 1) 0 h) (grind (arith, nat_tests)))
+    (λ (n : k ≡ i → ⊥). rw (get_or-set_other xs i k (get_or xs i 0 - 1) 0 n) (grind (arith, nat_tests)))
+    (cases_eq k i)
 
 -- without its first row
 pub bill-less : (row : List ℕ) (rows : List (List ℕ)) → length row < lengths → set (bill_of (row ∷ rows)) (length row) (get_or (bill_of (row ∷ rows)) (length row) 0 - 1) ≡ bill_of rows

@@ -1,10 +1,7 @@
 -- What no call of a solver changes.
-use Rattle.std.proofs.Common.{refl, ◌∙◌}
+use Rattle.std.proofs.Common.{◌∙◌}
 use Rattle.solver.specs.Calls.{Fixed, Kept}
 use Rattle.solver.specs.Meaning.{Meaning}
-
-pub kept_same : (m : Meaning) → Kept m m
-kept_same m = record { kind = refl; stop = refl }
 
 -- after two calls
 pub kept-twice : (m n o : Meaning) → Kept m n → Kept n o → Kept m o

@@ -1,15 +1,15 @@
 -- Posting the rows of a board one by one.
-use Rattle.std.proofs.Common.{◌≡◌, ℕ, ◌-◌, ◌≤◌, Bool, ◌&&◌, eqb, List, [], ◌∷◌, ◌++◌, length, get_or, set, None, sym, ap, ◌∙◌, arith}
+use Rattle.std.proofs.Common.{◌≡◌, ℕ, ◌-◌, ◌≤◌, Bool, ◌&&◌, eqb, List, [], ◌∷◌, ◌++◌, length, get_or, set, None, refl, ap, ◌∙◌, arith}
 use mathlib.Core.Path.{fun_ext}
+use Rattle.std.proofs.Math.Bool.{and_assoc}
+use Rattle.std.proofs.lemmas.List.Recursion.{and_push}
 use Rattle.std.proofs.lemmas.Bool.{le-leb}
-use Rattle.std.proofs.lemmas.Bool.Decides.{nat_tests}
-use Rattle.rows.specs.declared.kinds.Kind.{Kind}
 use Rattle.rows.specs.declared.kinds.Kind.TheVariants.{Cover}
 use Rattle.rows.specs.Bills.{bill_of}
 use Rattle.rows.specs.Kinds.{longest}
 use Rattle.rows.specs.Truth.{valuation, holds, all_hold, first_wide}
 use Rattle.rows.proofs.Tallies.{bill-none}
-use Rattle.solver.specs.Calls.{Kept, Opened, Posted}
+use Rattle.solver.specs.Calls.{Kept, Posted}
 use Rattle.solver.specs.Meaning.{Meaning}
 use Rattle.solver.specs.Stops.{post_stop}
 use Rattle.puzzles.specs.Boards.{Board, Lined, rows, vars as board_vars}
@@ -32,26 +32,6 @@ pub record Posting (b : Board) (so_far left : List (List ℕ)) (m : Meaning) : T
   pub drawn : m.drawn ≡ []
   pub current : m.current ≡ None
 
--- one row more
-all_hold-push : (kind : Kind) (v : ℕ → Bool) (rs : List (List ℕ)) (r : List ℕ) → all_hold kind v (rs ++ r ∷ []) ≡ (all_hold kind v rs && holds kind v r)
-all_hold-push kind v [] r = grind (arith, nat_tests)
-all_hold-push kind v (q ∷ rs) r = rw (all_hold-push kind v rs r) (grind (arith, nat_tests))
-
-and_assoc : (x y z : Bool) → ((x && y) && z) ≡ (x && (y && z))
-and_assoc x y z = grind (arith, nat_tests)
-
--- opened: no row is posted
-pub posting-none : (b : Board) (left : List (List ℕ)) (m : Meaning) → left ≡ rows b → m.kind ≡ Cover → Opened m (board_vars b) (bill_of (rows b)) → Posting b [] left m
-posting-none b left m e k o = record {
-  whole = e;
-  kind = k;
-  vars = o.vars;
-  owed = o.owed ∙ ap bill_of (sym e);
-  solves = o.solves ∙ fun_ext (λ xs. grind (arith, nat_tests));
-  drawn = o.drawn;
-  current = o.current;
-}
-
 module _ (b : Board) (lined : Lined b) (so_far left rest : List (List ℕ)) (m : Meaning) (p : Posting b so_far left m) (row : List ℕ) (turn : left ≡ row ∷ rest) (short : length row ≤ longest) where
   -- the next row is owed
   due : m.owed ≡ bill_of (row ∷ rest)
@@ -71,7 +51,7 @@ module _ (b : Board) (lined : Lined b) (so_far left rest : List (List ℕ)) (m :
   more-solves xs =
       let v = valuation xs in
       let f : m.solves xs ≡ solution_of b so_far xs = ap (λ (g : List Bool → Bool). g xs) p.solves in
-      rw (p.kind, f, all_hold-push Cover v so_far row) (and_assoc (eqb (length xs) (board_vars b)) (all_hold Cover v so_far) (holds Cover v row))
+      rw (p.kind, f, and_push (all_hold Cover v) (holds Cover v) refl (λ _ _. refl) so_far row) (and_assoc (eqb (length xs) (board_vars b)) (all_hold Cover v so_far) (holds Cover v row))
 
   -- once it is posted, one row more is
   pub posting-more : (m' : Meaning) → Kept m m' → Posted m m' row → Posting b (so_far ++ row ∷ []) rest m'

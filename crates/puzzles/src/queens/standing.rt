@@ -12,7 +12,8 @@ pub(crate) fn one_per_column(size: usize, answer: &[u8]) -> bool
     (0..size).all(|column| count_value(column, answer) == 1)
 }
 
-// Whether the queen of row j stands on no diagonal with one of an earlier row.
+// Whether the queen of row j stands on no diagonal with one of an earlier row. By its index, since the question is about
+// that row.
 pub(crate) fn is_apart(answer: &[u8], j: usize) -> bool
     requires { j < length answer.now }
     ensures { result ≡ list_all (λ i. not (aligned answer.now i j)) (range_with_len 0 j) }

@@ -21,7 +21,8 @@ impl Backtracker {
         Ok(())
     }
 
-    // A new backtracker of the kind of this number, or of kind 1 where no kind has it: a plain number, since making is never refused. The workspace is its only memory.
+    // A new backtracker of the kind of this number, or of kind 1 where no kind has it: a plain number, since making is never
+    // refused. The workspace is its only memory.
     pub fn new(kind: u64, work: Vec<u16>) -> Backtracker
         ensures kind { (backtracks result).kind ≡ made_kind kind }
         ensures takes { (backtracks result).stop ≡ open_stop (made_kind kind) (vec_len work) }

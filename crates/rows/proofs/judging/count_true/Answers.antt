@@ -1,12 +1,9 @@
 use Rattle.std.proofs.Common.{◌+◌, Err, sym, ap, ◌∙◌, subst, arith}
 use Rattle.std.proofs.lemmas.Bool.Decides.{nat_tests}
 use Rattle.rows.proofs.Scans.{first-is-first}
-use Rattle.rows.proofs.Positions.{Counting, counting-start, counting-step, counting-stop, counting-end}
+use Rattle.rows.proofs.Positions.{Counting, counting-step, counting-stop, counting-end}
 use Rattle.rows.proofs.judging.count_true.Goals as goal
 use Rattle.rows.proofs.judging.count_true.Goals.{then-holds, else-holds}
-
-pub loop-i-init : goal.loop-i-init
-loop-i-init c = counting-start c.args.values.now c.args.row.now
 
 pub loop-i-preserved : goal.loop-i-preserved
 loop-i-preserved c =

@@ -21,11 +21,6 @@ loop-len-preserved g c = λ p.
       | else-count-gt0 w ↦ simp (w.f-is, w.any-is) (part-zero part lt (omega arith))
     ]
 
-pub returns-then-any-2-clause-writes : goal.returns-then-any-2-clause-writes
-returns-then-any-2-clause-writes g c = λ p ok.
-    let part = c.loop-len.invariant p in
-    part_end part c.loop-len.f (omega arith) (simp c.if-any-2.true (put-none part.put.plain))
-
 pub returns-else-any-2-clause-writes : goal.returns-else-any-2-clause-writes
 returns-else-any-2-clause-writes g c = λ p ok.
     let part = c.loop-len.invariant p in

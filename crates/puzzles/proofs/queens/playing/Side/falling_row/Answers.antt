@@ -17,6 +17,6 @@ returns c =
     let end : List ℕ → List ℕ = λ xs. xs ++ (2 * s) ∷ [] in
     c.push_variable.ensures
     ∙ elim c.if-d-n.branch [
-      | then-d-n w ↦ ap end (w.row-is ∙ w.run-row.ensures) ∙ sym (falling-high n d s w.if-d-n.true (omega arith))
-      | else-d-n w ↦ ap end (w.row-is ∙ w.run-row-else-d-n.ensures) ∙ sym (falling-low n d s w.if-d-n.false)
+      | then-d-n w ↦ ap end (w.row-is ∙ w.run-row.ensures) ∙ sym (falling-high n d s (omega arith) (omega arith))
+      | else-d-n w ↦ ap end (w.row-is ∙ w.run-row-else-d-n.ensures) ∙ sym (falling-low n d s (omega arith))
     ]

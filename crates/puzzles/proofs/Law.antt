@@ -1,21 +1,21 @@
 -- The law of boards: where the lines begin with those of the places, lie on the board and say what an answer is, answers and solutions match one to one.
 use Rattle.std.proofs.Common.{◌≡◌, ℕ, ◌+◌, ◌-◌, ◌*◌, ◌/◌, ◌%◌, ◌<◌, ◌≤◌, Bool, true, false, eqb, List, map, length, get_or, take, drop, sym, ◌∙◌, subst, ⊎_elim, zero-add, arith}
-use Rattle.std.specs.List.{range_with_len, AllByRecursion}
+use Rattle.std.specs.List.{range_with_len, All}
 use Rattle.std.proofs.lemmas.Nat.{mul-add-lt, div-add-mod', mod_below}
 use Rattle.std.proofs.lemmas.List.FromFn.{length-range_with_len, get_or-range_with_len}
-use Rattle.std.proofs.ByRecursion.{All-get_or, All-weaker}
+use Rattle.std.proofs.lemmas.List.Elements.{All-get_or, All-weaker}
 use Rattle.std.proofs.lemmas.List.{length-append, get_or_append_left, get_or-append_right, get_or-append-add, ext_get_or}
 use Rattle.std.proofs.lemmas.Bool.{and_parts, and_from, eqb-true, eq-eqb, cases_lt}
 use Rattle.rows.specs.declared.kinds.Kind.TheVariants.{Cover}
 use Rattle.rows.specs.Truth.{valuation, trues, all_hold}
-use Rattle.puzzles.specs.Lines.{Cell, Line, Inside, hits, all_met, variable_of, rows_from, board_values, slack_values}
+use Rattle.puzzles.specs.Lines.{Cell, Line, On, Inside, taken, hits, all_met, variable_of, rows_from, board_values, slack_values}
 use Rattle.puzzles.specs.Boards.{Board, Lined, LinedAreFaithful, cells, vars, rows, solution, encode, decode}
 use Rattle.puzzles.proofs.Blocks.{one-true, leading-is, length-board, board-at, length-block, block_at, length-values, values-at, cells_of, length-tested, tested_at, value-below}
 use Rattle.puzzles.proofs.Writing.{place-below}
-use Rattle.puzzles.proofs.Slacks.{gives, gives-from, gives_at, length-slack_values, Agrees, rows-exact, places-met, places-hold}
+use Rattle.puzzles.proofs.Slacks.{gives, gives-from, gives_at, length-slack_values, Agrees, AgreesOn, rows-exact, places-met, places-hold}
 
 -- what holds of all numbers below n holds of each
-all-below : (P : ℕ → Type 0) (n p : ℕ) → p < n → AllByRecursion P (range_with_len 0 n) → P p
+all-below : (P : ℕ → Type 0) (n p : ℕ) → p < n → All P (range_with_len 0 n) → P p
 all-below P n p h k =
     let e : get_or (range_with_len 0 n) p 0 ≡ p = get_or-range_with_len 0 n p 0 h ∙ zero-add p in
     let l = length-range_with_len 0 n in
@@ -26,8 +26,8 @@ abbrev pub Fills : ℕ → ℕ → (ℕ → Bool) → List ℕ → Type 0
 Fills size places f a = (p v : ℕ) → p < places → v < size → f (p * size + v) ≡ eqb (get_or a p 0) v
 
 -- so it does for the cells of lines on the board
-pub agrees : (size places : ℕ) (f : ℕ → Bool) (a : List ℕ) → Fills size places f a → (ls : List Line) → AllByRecursion (Inside size places) ls → Agrees size f a ls
-agrees size places f a e ls k = All-weaker _ _ (λ l. All-weaker _ _ (λ c i. e c.place c.value i.0 i.1) l.cells) ls k
+pub agrees : (size places : ℕ) (f : ℕ → Bool) (a : List ℕ) → Fills size places f a → (ls : List Line) → All (Inside size places) ls → Agrees size f a ls
+agrees size places f a e ls k = All-weaker (Inside size places) (AgreesOn size f a) (λ l. All-weaker (On size places) (λ c. f (variable_of size c) ≡ taken a c) (λ c i. e c.place c.value i.0 i.1) l.cells) ls k
 
 -- and for every board variable, which is that of a place and a value
 pub fills-all : (size places : ℕ) (f : ℕ → Bool) (a : List ℕ) → Fills size places f a → (i : ℕ) → i < places * size → get_or (board_values size places a) i false ≡ f i
@@ -64,7 +64,7 @@ module _ (b : Board) (k : Lined b) (a : List ℕ) (answered : b.answer a ≡ tru
   -- each of its values is on the board
   pub on-board : (p : ℕ) → p < b.places → get_or a p 0 < b.size
   on-board p h =
-      let met : AllByRecursion (λ p. hits a (cells_of b.size p) ≡ 1) (range_with_len 0 b.places) = places-met b.size a (range_with_len 0 b.places) k.rest (subst (λ ls. all_met a ls ≡ true) k.starts parts.1) in
+      let met : All (λ p. hits a (cells_of b.size p) ≡ 1) (range_with_len 0 b.places) = places-met b.size a (range_with_len 0 b.places) k.rest (subst (λ ls. all_met a ls ≡ true) k.starts parts.1) in
       value-below b.size a p (all-below (λ p. hits a (cells_of b.size p) ≡ 1) b.places p h met)
 
   -- so decoding gives back each value

@@ -1,12 +1,12 @@
 -- Filling the slacks of a board row by row.
 use Rattle.std.proofs.Common.{◌≡◌, ℕ, zero, suc, ◌+◌, ◌*◌, ◌/◌, ◌<◌, ◌≤◌, Bool, true, false, cond, eqb, List, [], ◌∷◌, ◌++◌, map, length, get_or, take, drop, set, sym, ap, ◌∙◌, subst, ⊎_elim, append_assoc, append-nil, add-zero, add_assoc, arith}
 use lib.Arith.{digits_lt}
-use Rattle.std.specs.List.{AllByRecursion}
-use Rattle.std.proofs.ByRecursion.{All-get_or, All-weaker}
+use Rattle.std.specs.List.{All}
+use Rattle.std.proofs.lemmas.List.Elements.{All-get_or, All-weaker}
 use Rattle.std.proofs.lemmas.List.{length-append, length-drop, get_or_append_left, take_all, drop_at, drop-drop}
 use Rattle.std.proofs.lemmas.Bool.{cases_Bool}
 use Rattle.rows.specs.Truth.{valuation, truths, trues}
-use Rattle.puzzles.specs.Lines.{Cell, Line, On, plain, taken, hits, variable_of, row_of, rows_from, slacks, board_values, slack_values}
+use Rattle.puzzles.specs.Lines.{Cell, Line, On, Inside, plain, taken, hits, variable_of, row_of, rows_from, slacks, board_values, slack_values}
 use Rattle.puzzles.specs.Boards.{Board, Lined, cells, vars, rows, encode}
 use Rattle.puzzles.proofs.Blocks.{length-board, board-at}
 use Rattle.puzzles.proofs.LineRows.{length-rows}
@@ -93,12 +93,12 @@ module _ (b : Board) (k : Lined b) (a : List ℕ) (before : List Bool) (room : v
       write-next (front b a i) before (next b i) v false (front_length i) (omega arith) ∙ sym (rw (f, n))
 
   -- the next row does what it should, if it leaves or sets what is filled as a row of its kind does
-  pub filled-step : (i : ℕ) (row : List ℕ) (after : List Bool) → i < length (rows b) → row ≡ get_or (rows b) i [] → (AllByRecursion (λ l. l / 2 < cells b) row → after ≡ filled b a before i) → ((others : List ℕ) (s : ℕ) → row ≡ others ++ (2 * s) ∷ [] → cells b ≤ s → s < length (filled b a before i) → AllByRecursion (λ l. l / 2 < cells b) others → after ≡ set (filled b a before i) s (eqb (trues (truths (valuation (filled b a before i)) others)) 0)) → after ≡ filled b a before (suc i)
+  pub filled-step : (i : ℕ) (row : List ℕ) (after : List Bool) → i < length (rows b) → row ≡ get_or (rows b) i [] → (All (λ l. l / 2 < cells b) row → after ≡ filled b a before i) → ((others : List ℕ) (s : ℕ) → row ≡ others ++ (2 * s) ∷ [] → cells b ≤ s → s < length (filled b a before i) → All (λ l. l / 2 < cells b) others → after ≡ set (filled b a before i) s (eqb (trues (truths (valuation (filled b a before i)) others)) 0)) → after ≡ filled b a before (suc i)
   filled-step i row after h e p q =
       let g : i < length b.lines = omega (arith, length-rows b.size (cells b) b.lines) in
       let l = line_at b.lines i in
       let ms = map (λ c. 2 * variable_of b.size c) l.cells in
-      let inside = All-get_or _ b.lines i (plain []) g k.inside in
+      let inside = All-get_or (Inside b.size b.places) b.lines i (plain []) g k.inside in
       let narrow = cells-narrow b.size b.places (cells b) l.cells (omega arith) inside in
       let r = e ∙ row_at b.size (cells b) b.lines i g in
       ⊎_elim
@@ -107,19 +107,19 @@ module _ (b : Board) (k : Lined b) (a : List ℕ) (before : List Bool) (room : v
       let n = filled-length i in
       let few = slacks-few b.lines (suc i) in
       let more : slacks (take (suc i) b.lines) ≡ slacks (take i b.lines) + 1 = slacks-more b.lines i g ∙ rw t in
-      let agree = All-weaker _ (λ c. valuation (filled b a before i) (variable_of b.size c) ≡ taken a c) (cell-agrees i) l.cells inside in
+      let agree = All-weaker (On b.size b.places) (λ c. valuation (filled b a before i) (variable_of b.size c) ≡ taken a c) (cell-agrees i) l.cells inside in
       let count : trues (truths (valuation (filled b a before i)) ms) ≡ hits a l.cells = subst (λ m. trues (truths (valuation (filled b a before i)) m) ≡ hits a l.cells) (append-nil ms) (row_count b.size 0 (valuation (filled b a before i)) a (plain l.cells) agree ∙ add-zero _) in
       q ms (next b i) whole (omega arith) (omega arith) narrow ∙ rw count (slack-step i g t))
       (λ (t : l.slack ≡ false).
       let whole : row ≡ ms = r ∙ rw t (append-nil ms) in
-      p (subst (AllByRecursion (λ m. m / 2 < cells b)) (sym whole) narrow) ∙ plain_step i g t)
+      p (subst (All (λ m. m / 2 < cells b)) (sym whole) narrow) ∙ plain_step i g t)
       (cases_Bool l.slack)
 
   -- the same, in the terms of a loop over the rows
-  pub fill_step : (n : ℕ) (now : List Bool) (i : ℕ) (row : List ℕ) (after : List Bool) → n ≡ cells b → now ≡ filled b a before i → i < length (rows b) → row ≡ get_or (rows b) i [] → (AllByRecursion (λ l. l / 2 < n) row → after ≡ now) → ((others : List ℕ) (s : ℕ) → row ≡ others ++ (2 * s) ∷ [] → n ≤ s → s < length now → AllByRecursion (λ l. l / 2 < n) others → after ≡ set now s (eqb (trues (truths (valuation now) others)) 0)) → after ≡ filled b a before (i + 1)
+  pub fill_step : (n : ℕ) (now : List Bool) (i : ℕ) (row : List ℕ) (after : List Bool) → n ≡ cells b → now ≡ filled b a before i → i < length (rows b) → row ≡ get_or (rows b) i [] → (All (λ l. l / 2 < n) row → after ≡ now) → ((others : List ℕ) (s : ℕ) → row ≡ others ++ (2 * s) ∷ [] → n ≤ s → s < length now → All (λ l. l / 2 < n) others → after ≡ set now s (eqb (trues (truths (valuation now) others)) 0)) → after ≡ filled b a before (i + 1)
   fill_step n now i row after c e h r p q =
       let m : suc i ≡ i + 1 = omega arith in
-      let back : (ls : List ℕ) → AllByRecursion (λ l. l / 2 < cells b) ls → AllByRecursion (λ l. l / 2 < n) ls = λ ls k. subst (λ (j : ℕ). AllByRecursion (λ l. l / 2 < j) ls) (sym c) k in
+      let back : (ls : List ℕ) → All (λ l. l / 2 < cells b) ls → All (λ l. l / 2 < n) ls = λ ls k. subst (λ (j : ℕ). All (λ l. l / 2 < j) ls) (sym c) k in
       subst (λ (j : ℕ). after ≡ filled b a before j) m
       (filled-step i row after h r
       (λ k. p (back row k) ∙ e)

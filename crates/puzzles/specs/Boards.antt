@@ -1,6 +1,6 @@
 -- What a puzzle means, and the law that every puzzle shows: its answers and the solutions of its rows match one to one.
 use Rattle.std.specs.Prelude.{◌≡◌, ℕ, ◌+◌, ◌*◌, Bool, true, ◌&&◌, List, ◌++◌, length, ◌==◌}
-use Rattle.std.specs.List.{AllByRecursion}
+use Rattle.std.specs.List.{All}
 use Rattle.rows.specs.declared.kinds.Kind.TheVariants.{Cover}
 use Rattle.rows.specs.Truth.{valuation, all_hold}
 use Rattle.puzzles.specs.Lines.{Line, Inside, all_met, place_lines, rows_from, slacks, board_values, slack_values, values_of}
@@ -50,7 +50,7 @@ pub record Lined (b : Board) : Type 0 where
   pub rest : List Line
   pub starts : b.lines ≡ place_lines b.size b.places ++ rest
   -- every line lies on the board
-  pub inside : AllByRecursion (Inside b.size b.places) b.lines
+  pub inside : All (Inside b.size b.places) b.lines
   -- the answers are the lists of values that meet every line
   pub meets : (a : List ℕ) → b.answer a ≡ (length a == b.places && all_met a b.lines)
 

@@ -1,6 +1,6 @@
 -- What puzzles have in common: values at places, and lines of cells of which one is taken.
 use Rattle.std.specs.Prelude.{ℕ, ◌+◌, ◌*◌, ◌/◌, ◌%◌, ◌<◌, Bool, true, false, cond, not, ◌&&◌, List, [], ◌∷◌, ◌++◌, map, take, drop, ◌==◌, nat_eq, nat_le, slice_index}
-use Rattle.std.specs.List.{range_with_len, prefix_len, AllByRecursion}
+use Rattle.std.specs.List.{range_with_len, prefix_len, All}
 use Rattle.rows.specs.Truth.{trues}
 
 -- a value at a place
@@ -27,7 +27,7 @@ abbrev pub On : ℕ → ℕ → Cell → Type 0
 On size places c = (c.place < places) × (c.value < size)
 
 abbrev pub Inside : ℕ → ℕ → Line → Type 0
-Inside size places l = AllByRecursion (On size places) l.cells
+Inside size places l = All (On size places) l.cells
 
 -- whether the values a, one for each place, have the cell's value at its place
 abbrev pub taken : List ℕ → Cell → Bool

@@ -6,7 +6,7 @@ ghost use Rattle.puzzles.specs.Calls.{Decodes, Encodes, Fills, fill_stop};
 ghost use Rattle.puzzles.specs.Lines.{board_values, values_of};
 ghost use Rattle.rows.specs.Stops.{Unless};
 ghost use Rattle.rows.specs.Truth.{trues, truths, valuation};
-ghost use Rattle.std.specs.List.{prefix_len, AllByRecursion};
+ghost use Rattle.std.specs.List.{prefix_len, All};
 
 use crate::boards::Puzzle;
 use crate::calls::first_false;
@@ -95,8 +95,8 @@ fn fill_cells(size: usize, answer: &[u8], values: &mut [bool])
 
 // Where a row ends in a slack, which is no board variable, the slack is true if no other position is.
 fn fill_slack(cells: usize, row: &[Literal], values: &mut [bool])
-    ensures plain { AllByRecursion (λ l. l / 2 < cells) row.now → values.new ≡ values.old }
-    ensures slack { (others : List ℕ) (s : ℕ) → row.now ≡ others ++ (2 * s) ∷ [] → cells ≤ s → s < length values.old → AllByRecursion (λ l. l / 2 < cells) others → values.new ≡ slice_set values.old s (trues (truths (valuation values.old) others) == 0) }
+    ensures plain { All (λ l. l / 2 < cells) row.now → values.new ≡ values.old }
+    ensures slack { (others : List ℕ) (s : ℕ) → row.now ≡ others ++ (2 * s) ∷ [] → cells ≤ s → s < length values.old → All (λ l. l / 2 < cells) others → values.new ≡ slice_set values.old s (trues (truths (valuation values.old) others) == 0) }
 {
     let Some((last, others)) = row.split_last() else {
         return;

@@ -1,8 +1,9 @@
 -- The first that fails is what it is called: it fails, and none before it does.
 use Rattle.std.specs.List.{position, position_from}
 use Rattle.std.proofs.lemmas.Iterator.Adapters.{position_from-zero}
-use Rattle.std.proofs.Common.{not, sym, refl, ◌≡◌, ℕ, zero, suc, ◌+◌, Bool, true, false, List, [], ◌∷◌, Some, None, Option, ◌∙◌, ⊎_elim, arith}
+use Rattle.std.proofs.Common.{not, sym, refl, ◌≡◌, ℕ, zero, suc, ◌+◌, Bool, true, false, List, [], ◌∷◌, Some, None, Option, ◌∙◌, ⊎_elim, arith, take}
 use Rattle.std.proofs.lemmas.Bool.{cases_Bool}
+use Rattle.std.proofs.lemmas.List.Elements.{All-nil, All-cons}
 use Rattle.rows.specs.Firsts.{first_failing, First}
 
 -- an answer about a list whose first element has index i
@@ -12,15 +13,15 @@ Shifted test i xs (Some j) = (k : ℕ) × (j ≡ i + k) × First test xs (Some k
 
 -- an element in front that passes
 passed : {X : Type 0} (test : X → Bool) (i : ℕ) (x : X) (xs : List X) (o : Option ℕ) → test x ≡ true → Shifted test (i + 1) xs o → Shifted test i (x ∷ xs) o
-passed test i x xs None e s = (e, s)
-passed test i x xs (Some j) e s = (suc s.0, omega (arith, s.1), (omega (arith, s.2.0), s.2.1, (e, s.2.2)))
+passed test i x xs None e s = All-cons (λ y. test y ≡ true) x xs e s
+passed test i x xs (Some j) e s = (suc s.0, omega (arith, s.1), (omega (arith, s.2.0), s.2.1, All-cons (λ y. test y ≡ true) x (take s.0 xs) e s.2.2))
 
 scanned : {X : Type 0} (test : X → Bool) (i : ℕ) (xs : List X) → Shifted test i xs (first_failing test i xs)
-scanned test i [] = tt
+scanned test i [] = All-nil (λ y. test y ≡ true)
 scanned {X} test i (x ∷ xs) =
     ⊎_elim {C = Shifted test i (x ∷ xs) (first_failing test i (x ∷ xs))}
     (λ (e : test x ≡ true). rw e (passed test i x xs (first_failing test (i + 1) xs) e (scanned test (i + 1) xs)))
-    (λ (e : test x ≡ false). rw e (zero, omega arith, (omega arith, (λ d. e), tt)))
+    (λ (e : test x ≡ false). rw e (zero, omega arith, (omega arith, (λ d. e), All-nil (λ y. test y ≡ true))))
     (cases_Bool (test x))
 
 -- from an answer that starts at index 0

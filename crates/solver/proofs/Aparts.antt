@@ -1,14 +1,15 @@
 -- Lists of which no two are equal.
 use Rattle.std.proofs.Common.{◌≡◌, Bool, true, false, cond, List, [], ◌∷◌, ◌++◌, map, filter, sym, refl, ◌∙◌, subst, ⊎_elim, true≢false}
 use mathlib.Core.List.{Memᴰ}
-use Rattle.std.specs.List.{AllByRecursion}
+use Rattle.std.specs.List.{All}
 use Rattle.std.proofs.lemmas.Bool.{cases_Bool}
+use Rattle.std.proofs.lemmas.List.Elements.{All-head, All-tail}
 use Rattle.solver.specs.Laws.{Apart}
 
 module _ {X : Type 0} where
-  pub all-at : (P : X → Type 0) (xs : List X) {x : X} → AllByRecursion P xs → Memᴰ x xs → P x
+  pub all-at : (P : X → Type 0) (xs : List X) {x : X} → All P xs → Memᴰ x xs → P x
   all-at P [] a m = absurd (mathlib.Core.List.Memᴰ.not-nil m)
-  all-at P (y ∷ xs) {x} a m = ⊎_elim (λ (e : x ≡ y). subst P (sym e) a.0) (λ (k : Memᴰ x xs). all-at P xs a.1 k) (mathlib.Core.List.Memᴰ.cases_cons m)
+  all-at P (y ∷ xs) {x} a m = ⊎_elim (λ (e : x ≡ y). subst P (sym e) (All-head P y xs a)) (λ (k : Memᴰ x xs). all-at P xs (All-tail P y xs a) k) (mathlib.Core.List.Memᴰ.cases_cons m)
 
   module _ (f : X → Bool) where
     pub mem-kept : (xs : List X) {x : X} → f x ≡ true → Memᴰ x xs → Memᴰ x (filter f xs)

@@ -1,7 +1,7 @@
 -- What holds of every solver, and of one that is sound: newly made, or opened since.
 use Rattle.std.specs.Prelude.{◌≡◌, ℕ, ◌≤◌, Bool, true, ◌⊎◌, List, [], ◌∷◌, ◌++◌, length, take, replicate, Some, None, nat_eq}
 use mathlib.Core.List.{Memᴰ}
-use Rattle.std.specs.List.{AllByRecursion}
+use Rattle.std.specs.List.{All}
 use Rattle.rows.specs.declared.stops.Fault.{Fault}
 use Rattle.rows.specs.declared.stops.Stop.TheVariants.{Joint as Unfit, Big}
 use Rattle.rows.specs.Bills.{counts_within, shortest}
@@ -37,7 +37,7 @@ pub record Lawful (m : Meaning) : Type 0 where
   pub sized : (xs : List Bool) → m.solves xs ≡ true → length xs ≡ m.vars
   pub narrow : m.vars ≤ within
   -- what is drawn is a solution
-  pub sure : AllByRecursion (λ xs. m.solves xs ≡ true) m.drawn
+  pub sure : All (λ xs. m.solves xs ≡ true) m.drawn
   -- and is drawn once
   pub apart : Apart m.drawn
   -- nothing is drawn while a row is owed
@@ -45,7 +45,7 @@ pub record Lawful (m : Meaning) : Type 0 where
   -- what is current was drawn last
   pub last : (xs : List Bool) → m.current ≡ Some xs → Last xs m.drawn
   -- while no row is owed, every joint matches solutions one to one
-  pub matched : Ready m → AllByRecursion OneToOne m.joints
+  pub matched : Ready m → All OneToOne m.joints
 
 -- newly made: no variables and no rows, so that the empty list is the one solution, and nothing is drawn
 pub record Fresh (m : Meaning) : Type 0 where

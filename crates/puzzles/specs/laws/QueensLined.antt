@@ -1,7 +1,7 @@
 -- The lines of queens say what an answer is.
 use Rattle.std.proofs.Common.{◌≡◌, ℕ, ◌+◌, ◌-◌, ◌*◌, ◌<◌, Bool, true, not, ◌&&◌, eqb, ltb, leb, List, ◌++◌, map, length, get_or, sym, refl, ap, ◌∙◌, arith}
-use Rattle.std.specs.List.{range_with_len, AllByRecursion}
-use Rattle.std.proofs.ByRecursion.{All-append, all_kept_by}
+use Rattle.std.specs.List.{range_with_len, All}
+use Rattle.std.proofs.lemmas.List.Elements.{All-append, All-filter}
 use Rattle.std.proofs.lemmas.Bool.{and_parts, and_from, eqb-true, ltb-true}
 use Rattle.std.proofs.lemmas.Bool.Decides.{nat_tests}
 use Rattle.puzzles.specs.declared.givens.Given.{Given}
@@ -17,19 +17,19 @@ use Rattle.puzzles.specs.laws.DiagonalCells.{falling-cells, rising-cells}
 use Rattle.puzzles.specs.laws.GivenLines.{given-lines-met, given-lines-inside}
 
 -- every cell is on the board
-all-on : (n : ℕ) → AllByRecursion (On n n) (all_cells n)
-all-on n = all-joined (On n n) (λ p. map (at p) (range_with_len 0 n)) (range_with_len 0 n) (all-counting (λ p. AllByRecursion (On n n) (map (at p) (range_with_len 0 n))) 0 n (λ p l u. place-on n n p (omega arith)))
+all-on : (n : ℕ) → All (On n n) (all_cells n)
+all-on n = all-joined (On n n) (λ p. map (at p) (range_with_len 0 n)) (range_with_len 0 n) (all-counting (λ p. All (On n n) (map (at p) (range_with_len 0 n))) 0 n (λ p l u. place-on n n p (omega arith)))
 
 -- and so are the lines
-lines-inside : (n : ℕ) (gs : List Given) → all_fit n n gs ≡ true → AllByRecursion (Inside n n) (queens_lines n gs)
+lines-inside : (n : ℕ) (gs : List Given) → all_fit n n gs ≡ true → All (Inside n n) (queens_lines n gs)
 lines-inside n gs e =
     let P = Inside n n in
     let r = map (rising n) (range_with_len 1 (2 * n - 3)) ++ map given_line gs in
     let f = map (falling n) (range_with_len 2 (2 * n - 3)) ++ r in
     All-append P (place_lines n n) (map (column n) (range_with_len 0 n) ++ f) (place_lines-inside n n)
     (All-append P (map (column n) (range_with_len 0 n)) f (all-map-counting P (column n) 0 n (λ c l u. all-map-counting (On n n) (λ p. at p c) 0 n (λ p k v. (omega arith, omega arith))))
-    (All-append P (map (falling n) (range_with_len 2 (2 * n - 3))) r (all-map-counting P (falling n) 2 (2 * n - 3) (λ d l u. all_kept_by (λ c. eqb (c.value + n) (c.place + d)) (On n n) (all_cells n) (all-on n)))
-    (All-append P (map (rising n) (range_with_len 1 (2 * n - 3))) (map given_line gs) (all-map-counting P (rising n) 1 (2 * n - 3) (λ d l u. all_kept_by (λ c. eqb (c.place + c.value) d) (On n n) (all_cells n) (all-on n)))
+    (All-append P (map (falling n) (range_with_len 2 (2 * n - 3))) r (all-map-counting P (falling n) 2 (2 * n - 3) (λ d l u. All-filter (λ c. eqb (c.value + n) (c.place + d)) (On n n) (all_cells n) (all-on n)))
+    (All-append P (map (rising n) (range_with_len 1 (2 * n - 3))) (map given_line gs) (all-map-counting P (rising n) 1 (2 * n - 3) (λ d l u. All-filter (λ c. eqb (c.place + c.value) d) (On n n) (all_cells n) (all-on n)))
     (given-lines-inside n n gs e))))
 
 -- a column is met where its number stands once

@@ -1,6 +1,6 @@
 use Rattle.std.proofs.Common.{◌≡◌, ◌/◌, ◌<◌, ap, ◌∙◌, subst, arith}
 use Rattle.std.specs.Result.{result_unwrap_or}
-use Rattle.std.specs.List.{AllByRecursion}
+use Rattle.std.specs.List.{All}
 use Rattle.rows.specs.Truth.{valuation, truths, trues}
 use Rattle.rows.specs.Judging.{counted}
 use Rattle.puzzles.proofs.Lasts.{all-last, last-is, others-count}
@@ -11,7 +11,7 @@ returns-then-slack-values c =
     let whole = c.in-Some.ensures.cases.0 in
     record {
       plain = λ k.
-          let m = all-last (λ l. l / 2 < c.args.cells) c.in-Some.others.now c.in-Some.last.now (subst (AllByRecursion (λ l. l / 2 < c.args.cells)) whole k) in
+          let m = all-last (λ l. l / 2 < c.args.cells) c.in-Some.others.now c.in-Some.last.now (subst (All (λ l. l / 2 < c.args.cells)) whole k) in
           absurd (omega (arith, c.if-slack-cells.true, c.variable-slack.ensures, m));
       slack = λ others s e h l k.
           let q = last-is c.args.row.now others c.in-Some.others.now c.in-Some.last.now s whole e in

@@ -1,5 +1,7 @@
 pub mod Passes
 pub mod Workspaces
+pub mod WorkspaceSearches
+pub mod WorkspacePasses
 pub mod Spaces
 pub mod Reslotting
 pub mod Moving

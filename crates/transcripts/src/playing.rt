@@ -6,19 +6,19 @@ use solver::{Drawn, Solver};
 use std::alloc::Global;
 
 #[derive(Drop)]
-pub struct Player {
+pub(crate) struct Player {
     solver: Backtracker,
 }
 
 impl Player {
-    pub fn new(heap: Global) -> Player {
+    pub(crate) fn new(heap: Global) -> Player {
         Player {
             solver: Backtracker::new(1, Vec::new(heap)),
         }
     }
 
     // A line is a call and its numbers; one that begins with a sharp is a remark, and is printed as it is.
-    pub fn step(&mut self, rt: &HostRuntime, line: &str) -> anyhow::Result<()> {
+    pub(crate) fn step(&mut self, rt: &HostRuntime, line: &str) -> anyhow::Result<()> {
         let mut words = line.split_whitespace();
         let Some(call) = words.next() else {
             return Ok(());

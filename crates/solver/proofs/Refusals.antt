@@ -1,10 +1,12 @@
--- What is known of a row that is not refused.
-use Rattle.std.proofs.Common.{◌≡◌, ℕ, zero, suc, ◌+◌, ◌<◌, ◌≤◌, true, eqb, List, [], ◌∷◌, length, get_or, is_some, None, arith}
+-- What refuses a row and a draw, and what is known where nothing does.
+use Rattle.std.proofs.Common.{◌≡◌, ℕ, zero, suc, ◌+◌, ◌<◌, ◌≤◌, true, false, eqb, List, [], ◌∷◌, length, get_or, is_some, Some, None, refl, arith}
 use Rattle.std.proofs.lemmas.Bool.Decides.{nat_tests}
 use Rattle.rows.specs.declared.kinds.Kind.{Kind}
+use Rattle.rows.specs.declared.stops.Stop.TheVariants.{Row, Literal, Bill, Owed}
 use Rattle.rows.specs.Bills.{shortest}
 use Rattle.rows.specs.Firsts.{first_failing}
 use Rattle.rows.specs.Kinds.{has_length, longest}
+use Rattle.rows.specs.Stops.{here}
 use Rattle.rows.specs.Truth.{first_wide}
 use Rattle.solver.specs.Stops.{draw_stop, post_stop}
 
@@ -36,3 +38,21 @@ owed-some counts k h = owed-from 0 counts k h
 -- where a draw meets no stop, nothing is owed
 pub ready : (owed : List ℕ) → draw_stop owed ≡ None → shortest owed ≡ None
 ready owed e = grind arith
+
+-- what refuses a row, and when it is taken
+module _ (kind : Kind) (n : ℕ) (owed row : List ℕ) where
+  pub refused-by-length : has_length kind (length row) ≡ false → post_stop kind n owed row ≡ Some (here (Row (length row)))
+  refused-by-length e = rw e refl
+
+  pub refused-by-literal : has_length kind (length row) ≡ true → (i : ℕ) → first_wide n 0 row ≡ Some i → post_stop kind n owed row ≡ Some (here (Literal i))
+  refused-by-literal e i f = rw (e, f) refl
+
+  pub refused-by-bill : has_length kind (length row) ≡ true → first_wide n 0 row ≡ None → eqb (get_or owed (length row) 0) 0 ≡ true → post_stop kind n owed row ≡ Some (here (Bill (length row)))
+  refused-by-bill e f b = rw (e, f, b) refl
+
+  pub not-refused : has_length kind (length row) ≡ true → first_wide n 0 row ≡ None → eqb (get_or owed (length row) 0) 0 ≡ false → post_stop kind n owed row ≡ None
+  not-refused e f b = rw (e, f, b) refl
+
+-- what refuses a draw
+pub refused-while-owed : (owed : List ℕ) (k : ℕ) → shortest owed ≡ Some k → draw_stop owed ≡ Some (here (Owed k))
+refused-while-owed owed k e = rw e refl

@@ -1,15 +1,16 @@
 -- Posting the rows of a board one by one.
-use Rattle.std.proofs.Common.{◌≡◌, ℕ, ◌-◌, ◌≤◌, Bool, ◌&&◌, eqb, List, [], ◌∷◌, ◌++◌, length, get_or, set, None, refl, ap, ◌∙◌, arith}
+use Rattle.std.proofs.Common.{◌≡◌, ℕ, ◌-◌, ◌≤◌, Bool, ◌&&◌, eqb, List, [], ◌∷◌, ◌++◌, length, get_or, set, None, refl, sym, ap, ◌∙◌, arith}
 use mathlib.Core.Path.{fun_ext}
 use Rattle.std.proofs.Math.Bool.{and_assoc}
 use Rattle.std.proofs.lemmas.List.Recursion.{and_push}
 use Rattle.std.proofs.lemmas.Bool.{le-leb}
+use Rattle.std.proofs.lemmas.Bool.Decides.{nat_tests}
 use Rattle.rows.specs.declared.kinds.Kind.TheVariants.{Cover}
 use Rattle.rows.specs.Bills.{bill_of}
 use Rattle.rows.specs.Kinds.{longest}
 use Rattle.rows.specs.Truth.{valuation, holds, all_hold, first_wide}
 use Rattle.rows.proofs.Tallies.{bill-none}
-use Rattle.solver.specs.Calls.{Kept, Posted}
+use Rattle.solver.specs.Calls.{Kept, Opened, Posted}
 use Rattle.solver.specs.Meaning.{Meaning}
 use Rattle.solver.specs.Stops.{post_stop}
 use Rattle.puzzles.specs.Boards.{Board, Lined, rows, vars as board_vars}
@@ -31,6 +32,18 @@ pub record Posting (b : Board) (so_far left : List (List ℕ)) (m : Meaning) : T
   pub solves : m.solves ≡ solution_of b so_far
   pub drawn : m.drawn ≡ []
   pub current : m.current ≡ None
+
+-- before the first row, all are owed
+pub posting-none : (b : Board) (left : List (List ℕ)) (m : Meaning) → left ≡ rows b → m.kind ≡ Cover → Opened m (board_vars b) (bill_of (rows b)) → Posting b [] left m
+posting-none b left m all kind o = record {
+  whole = all;
+  kind = kind;
+  vars = o.vars;
+  owed = o.owed ∙ sym (ap bill_of all);
+  solves = o.solves ∙ fun_ext (λ xs. grind (arith, nat_tests));
+  drawn = o.drawn;
+  current = o.current;
+}
 
 module _ (b : Board) (lined : Lined b) (so_far left rest : List (List ℕ)) (m : Meaning) (p : Posting b so_far left m) (row : List ℕ) (turn : left ≡ row ∷ rest) (short : length row ≤ longest) where
   -- the next row is owed

@@ -1,10 +1,12 @@
-// A first look at the library: a queens board as rows, a right and a wrong filling judged, and an answer turned into
-// truth values and back.
+// A first look at the library: a queens board as rows, a right and a wrong filling judged, an answer turned into truth
+// values and back, and how many answers the boards have.
 #![tactic(auto)]
 
+mod counting;
 mod drawing;
 
 use anyhow::anyhow;
+use counting::count_boards;
 use drawing::Grid;
 use itertools::Itertools;
 use puzzles::{Puzzle, Queens, bill, decode, encode, fill, first_false};
@@ -28,7 +30,9 @@ fn tour(rt: &HostRuntime) -> anyhow::Result<()> {
     judge_filling(rt, &queens, &RIGHT)?;
     judge_filling(rt, &queens, &WRONG)?;
     there_and_back(rt, &queens, &RIGHT)?;
-    refusals(rt, &mut queens)
+    count_boards(rt)?;
+    refusals(rt, &mut queens)?;
+    counting::refusals(rt)
 }
 
 // What the board comes to as rows; in words of its own, so the like line of the program `boards` is not shared.

@@ -1,9 +1,11 @@
 // One call after another on a backtracker.
 use anyhow::anyhow;
+use puzzles::{Given, Queens};
 use rows::{Bill, Fault};
 use search::Backtracker;
 use solver::{Drawn, Solver};
 use std::alloc::Global;
+use verdict::count;
 
 #[derive(Drop)]
 pub(crate) struct Player {
@@ -40,6 +42,7 @@ impl Player {
             "next" => self.next(rt),
             "value" => self.value(rt, numbers.as_slice()),
             "rewind" => self.rewind(rt),
+            "count" => self.count(rt, numbers.as_slice()),
             _ => Err(anyhow!("no such call")),
         }
     }
@@ -124,6 +127,29 @@ impl Player {
     fn rewind(&mut self, rt: &HostRuntime) -> anyhow::Result<()> {
         self.solver.rewind();
         println!(rt; "ok")?;
+        Ok(())
+    }
+
+    // count LIMIT SIZE, and then for each given PLACE VALUE: the answers of a queens board.
+    fn count(&mut self, rt: &HostRuntime, numbers: &[u64]) -> anyhow::Result<()> {
+        let [limit, size, others @ ..] = numbers else {
+            return Err(anyhow!("count wants a limit and a size"));
+        };
+        let mut givens = Vec::new(rt.alloc());
+        for pair in others.chunks(2) {
+            if let [place, value] = pair {
+                let place = u8::try_from(*place)?;
+                let value = u8::try_from(*value)?;
+                givens.push(Given { place, value })?;
+            }
+        }
+        let mut queens = Queens::new();
+        queens.make(usize::try_from(*size)?, givens.as_slice())?;
+        match count(&queens, &mut self.solver, *limit) {
+            Ok((found, true)) => println!(rt; "{found}, and none is left")?,
+            Ok((found, false)) => println!(rt; "{found}")?,
+            Err(fault) => println!(rt; "{fault}")?,
+        }
         Ok(())
     }
 }

@@ -4,6 +4,8 @@
 use anyhow::anyhow;
 use itertools::Itertools;
 use puzzles::{Given, Puzzle, Queens, bill, decode, encode, rows_of};
+use search::Backtracker;
+use verdict::count;
 
 #[cfg(test)]
 mod tests;
@@ -31,6 +33,7 @@ fn try_boards(rt: &HostRuntime) -> anyhow::Result<()> {
         let mut queens = Queens::new();
         queens.make(size, &[])?;
         show_size(rt, &queens, 0)?;
+        show_count(rt, &queens)?;
     }
     show_board(rt, 6, &TWICE_AND_AGAIN)?;
     show_board(rt, 5, &CLASHING)
@@ -42,7 +45,8 @@ fn show_board(rt: &HostRuntime, size: usize, givens: &[Given]) -> anyhow::Result
     queens.make(size, givens)?;
     show_size(rt, &queens, givens.len())?;
     show_rows(rt, &queens)?;
-    show_answers(rt, &queens)
+    show_answers(rt, &queens)?;
+    show_count(rt, &queens)
 }
 
 fn show_size<P: Puzzle>(rt: &HostRuntime, puzzle: &P, givens: usize) -> anyhow::Result<()> {
@@ -84,6 +88,19 @@ fn show_answers<P: Puzzle>(rt: &HostRuntime, puzzle: &P) -> anyhow::Result<()> {
         }
     }
     println!(rt; "  {answers} answers")?;
+    Ok(())
+}
+
+// How many answers the board has, straight on a backtracker.
+fn show_count<P: Puzzle>(rt: &HostRuntime, puzzle: &P) -> anyhow::Result<()> {
+    let room = Backtracker::room(puzzle.vars(), &bill(puzzle));
+    // kind 1, of which the rows of puzzles are
+    let mut solver = Backtracker::new(1, vec![in rt.alloc(); 0u16; room as usize]?);
+    let (answers, none_left) = count(puzzle, &mut solver, u64::MAX)?;
+    if !none_left {
+        return Err(anyhow!("no board has so many answers"));
+    }
+    println!(rt; "  {answers} answers counted")?;
     Ok(())
 }
 

@@ -4,6 +4,8 @@ use rows::{Fault, Stop};
 use std::process::Abort;
 use std::test::Fail;
 
+mod counts;
+
 const ANSWER: [u8; 4] = [1, 3, 0, 2];
 
 const FITTING: [Given; 257] = [Given { place: 3, value: 3 }; 257];

@@ -1,7 +1,4 @@
 pub mod Passes
-pub mod Workspaces
-pub mod WorkspaceSearches
-pub mod WorkspacePasses
 pub mod Spaces
 pub mod Reslotting
 pub mod Moving

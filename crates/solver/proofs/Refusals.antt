@@ -22,10 +22,6 @@ accepted kind n owed row e = record {
   owes = grind (arith, nat_tests);
 }
 
--- no row is longer than the longest
-pub row-short : (kind : Kind) (k : ℕ) → has_length kind k ≡ true → k ≤ longest
-row-short kind k e = grind (arith, nat_tests)
-
 -- where a row is owed, there is a shortest length
 owed-from : (i : ℕ) (counts : List ℕ) (k : ℕ) → 0 < get_or counts k 0 → is_some (first_failing (λ c. eqb c 0) i counts) ≡ true
 owed-from i [] k h = grind (arith, nat_tests)

@@ -1,11 +1,11 @@
 -- What refuses a row and a draw, and what is known where nothing does.
-use Rattle.std.proofs.Common.{◌≡◌, ℕ, zero, suc, ◌+◌, ◌<◌, ◌≤◌, true, false, eqb, List, [], ◌∷◌, length, get_or, is_some, Some, None, refl, arith}
+use Rattle.std.proofs.Common.{◌≡◌, ℕ, zero, suc, ◌+◌, ◌<◌, true, false, eqb, List, [], ◌∷◌, length, get_or, is_some, Some, None, refl, arith}
 use Rattle.std.proofs.lemmas.Bool.Decides.{nat_tests}
 use Rattle.rows.specs.declared.kinds.Kind.{Kind}
 use Rattle.rows.specs.declared.stops.Stop.TheVariants.{Row, Literal, Bill, Owed}
 use Rattle.rows.specs.Bills.{shortest}
 use Rattle.rows.specs.Firsts.{first_failing}
-use Rattle.rows.specs.Kinds.{has_length, longest}
+use Rattle.rows.specs.Kinds.{has_length}
 use Rattle.rows.specs.Stops.{here}
 use Rattle.rows.specs.Truth.{first_wide}
 use Rattle.solver.specs.Stops.{draw_stop, post_stop}

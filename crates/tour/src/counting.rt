@@ -7,7 +7,7 @@ use verdict::count;
 const COVER: u64 = 1;
 
 // The empty boards of sizes 1 to 8, and the largest of them again with limits.
-pub fn count_boards(rt: &HostRuntime) -> anyhow::Result<()> {
+pub(crate) fn count_boards(rt: &HostRuntime) -> anyhow::Result<()> {
     println!(rt; "\nAnswers of the empty boards, counted straight on a backtracker:")?;
     let mut queens = Queens::new();
     for size in 1..9usize {
@@ -48,7 +48,7 @@ fn count_up_to<P: Puzzle>(rt: &HostRuntime, puzzle: &P, limit: u64) -> anyhow::R
 }
 
 // What is refused, and why.
-pub fn refusals(rt: &HostRuntime) -> anyhow::Result<()> {
+pub(crate) fn refusals(rt: &HostRuntime) -> anyhow::Result<()> {
     let queens = Queens::new();
     let room = room_for(&queens);
     let mut clauses = Backtracker::new(2, vec![in rt.alloc(); 0u16; room]?);

@@ -1,5 +1,5 @@
 -- The numbered refusals: each stop's number and name, and where a fault's place comes from.
-use Rattle.std.specs.Prelude.{◌≡◌, ℕ, Bool, cond, List, ◌++◌, Some, None, Ok, Err, codes, decimal, Option, Result}
+use Rattle.std.specs.Prelude.{◌≡◌, ℕ, ◌+◌, Bool, cond, min, List, ◌++◌, Some, None, Ok, Err, codes, decimal, Option, Result}
 use Rattle.rows.specs.declared.stops.Stop.{Stop}
 use Rattle.rows.specs.declared.stops.Stop.TheVariants.{Size, Count, Length, Entry, Wrong, Twice, Joint, Big, Row, Literal, Bill, Owed, Small, Make}
 use Rattle.rows.specs.declared.stops.Fault.{Fault}
@@ -59,6 +59,10 @@ fault_place f = place_at f.depth f.stop
 -- a fault of whoever was called
 abbrev pub here : Stop → Fault
 here s = record { stop = s; depth = 0 }
+
+-- a fault of the solver below, carried up: one deeper, and never over 255
+abbrev pub deeper : Fault → Fault
+deeper f = record { stop = f.stop; depth = min (f.depth + 1) 255 }
 
 -- a stop where a test says so
 abbrev pub stop_if : Bool → Stop → Option Fault

@@ -15,4 +15,4 @@ pub use buffers::Row;
 pub use judging::{count_true, judge};
 pub use kinds::{Kind, LENGTHS, LONGEST};
 pub use literals::{Literal, VARIABLES, negated, positive, variable};
-pub use stops::{Fault, Stop};
+pub use stops::{Fault, Lower, Stop};

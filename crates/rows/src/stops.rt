@@ -1,6 +1,6 @@
 // Why a call was refused: fourteen numbered stops, and the fault that carries one up through a stack of solvers.
 ghost use Rattle.std.specs.Prelude.{◌≡◌, Some};
-ghost use Rattle.rows.specs.Stops.{fault_place, fault_text, here, stop_name, stop_number};
+ghost use Rattle.rows.specs.Stops.{deeper, fault_place, fault_text, here, stop_name, stop_number};
 
 use std::error::Error;
 use std::fmt;
@@ -134,3 +134,21 @@ impl fmt::Display for Fault {
 }
 
 impl Error for Fault {}
+
+// A fault of a solver below. A type of its own, since `?` carries a fault up by a conversion, and a fault that is the reduction's
+// own is not to be changed by it.
+#[derive(Clone, Copy, PartialEq, Eq, Debug)]
+pub struct Lower(pub Fault);
+
+// The fault of the solver above: the same, one deeper, and never over 255.
+impl From<Lower> for Fault {
+    ghost from_gives = { λ lower fault. fault ≡ deeper lower.0 };
+
+    fn from(lower: Lower) -> Fault {
+        let Fault { stop, depth } = lower.0;
+        Fault {
+            stop,
+            depth: depth.saturating_add(1),
+        }
+    }
+}

@@ -1,0 +1,5 @@
+pub mod Rules
+pub mod Translations
+pub mod Bills
+pub mod Joints
+pub mod laws

@@ -1,19 +1,26 @@
-// Plays lists of calls on the backtracker, one call a line of standard input, and prints what each is answered.
-// `reference/solver.py` prints what must come out, from the same lines.
+// Plays lists of calls on the backtracker and on stacks of reductions over it, one call a line of standard input, and prints what
+// each is answered. `reference/solver.py` prints what must come out, from the same lines.
 #![tactic(auto)]
 
+mod making;
 mod playing;
 
-use playing::Player;
+use making::play_on;
 
 fn main(rt: HostRuntime) -> anyhow::Result<()> {
     play(&rt)
 }
 
+// Each line that makes a solver begins a new part, which is played as a whole: its solver has a type of its own.
 fn play(rt: &HostRuntime) -> anyhow::Result<()> {
-    let mut player = Player::new(rt.alloc());
+    let mut part = Vec::new(rt.alloc());
     for line in rt.lines(rt.alloc()) {
-        player.step(rt, line?.as_str())?;
+        let line = line?;
+        if line.as_str().starts_with("make ") {
+            play_on(rt, part.as_slice())?;
+            part.clear();
+        }
+        part.push(line)?;
     }
-    Ok(())
+    play_on(rt, part.as_slice())
 }

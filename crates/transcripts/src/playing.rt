@@ -1,26 +1,37 @@
-// One call after another on a backtracker.
+// One call after another on a solver.
 use anyhow::anyhow;
 use puzzles::{Given, Queens};
 use rows::{Bill, Fault};
-use search::Backtracker;
 use solver::{Drawn, Solver};
-use std::alloc::Global;
 use verdict::count;
 
 #[derive(Drop)]
-pub(crate) struct Player {
-    solver: Backtracker,
+pub(crate) struct Player<S: Solver + Drop> {
+    solver: S,
 }
 
-impl Player {
-    pub(crate) fn new(heap: Global) -> Player {
-        Player {
-            solver: Backtracker::new(1, Vec::new(heap)),
+impl<S: Solver + Drop> Player<S> {
+    pub(crate) fn new(solver: S) -> Player<S> {
+        Player { solver }
+    }
+
+    // The kind of the solver, and then its calls.
+    pub(crate) fn begin(self, rt: &HostRuntime, calls: &[String]) -> anyhow::Result<()> {
+        let kind = u8::from(self.solver.kind());
+        println!(rt; "kind {kind}")?;
+        self.play(rt, calls)
+    }
+
+    pub(crate) fn play(self, rt: &HostRuntime, calls: &[String]) -> anyhow::Result<()> {
+        let mut player = self;
+        for line in calls {
+            player.step(rt, line.as_str())?;
         }
+        Ok(())
     }
 
     // A line is a call and its numbers; one that begins with a sharp is a remark, and is printed as it is.
-    pub(crate) fn step(&mut self, rt: &HostRuntime, line: &str) -> anyhow::Result<()> {
+    fn step(&mut self, rt: &HostRuntime, line: &str) -> anyhow::Result<()> {
         let mut words = line.split_whitespace();
         let Some(call) = words.next() else {
             return Ok(());
@@ -36,7 +47,6 @@ impl Player {
         print!(rt; "{line}: ")?;
         // one arm for each word: a table of closures would say no more, and each call has its own numbers to read
         match call {
-            "make" => self.make(rt, numbers.as_slice()),
             "open" => self.open(rt, numbers.as_slice()),
             "post" => self.post(rt, numbers.as_slice()),
             "next" => self.next(rt),
@@ -45,21 +55,6 @@ impl Player {
             "count" => self.count(rt, numbers.as_slice()),
             _ => Err(anyhow!("no such call")),
         }
-    }
-
-    // make KIND ROOM: the check before making, then a new solver of the kind that it got.
-    fn make(&mut self, rt: &HostRuntime, numbers: &[u64]) -> anyhow::Result<()> {
-        let [kind, room] = numbers else {
-            return Err(anyhow!("make wants a kind and a size of the workspace"));
-        };
-        if let Err(fault) = Backtracker::check_kind(*kind) {
-            print!(rt; "{fault}; ")?;
-        }
-        let room = usize::try_from(*room)?;
-        self.solver = Backtracker::new(*kind, vec![in rt.alloc(); 7u16; room]?);
-        let got = u8::from(self.solver.kind());
-        println!(rt; "kind {got}")?;
-        Ok(())
     }
 
     // open VARIABLES, and then for each length with rows LENGTH COUNT.

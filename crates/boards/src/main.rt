@@ -5,8 +5,10 @@ use anyhow::anyhow;
 use itertools::Itertools;
 use puzzles::{Given, Puzzle, Queens, bill, decode, encode, rows_of};
 use search::Backtracker;
+use stacks::count_by_all;
 use verdict::count;
 
+mod stacks;
 #[cfg(test)]
 mod tests;
 
@@ -46,7 +48,10 @@ fn show_board(rt: &HostRuntime, size: usize, givens: &[Given]) -> anyhow::Result
     show_size(rt, &queens, givens.len())?;
     show_rows(rt, &queens)?;
     show_answers(rt, &queens)?;
-    show_count(rt, &queens)
+    show_count(rt, &queens)?;
+    let answers = count_by_all(rt, &queens)?;
+    println!(rt; "  {answers} answers counted by every stack")?;
+    Ok(())
 }
 
 fn show_size<P: Puzzle>(rt: &HostRuntime, puzzle: &P, givens: usize) -> anyhow::Result<()> {

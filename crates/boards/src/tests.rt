@@ -5,6 +5,7 @@ use std::process::Abort;
 use std::test::Fail;
 
 mod counts;
+mod stacks;
 
 const ANSWER: [u8; 4] = [1, 3, 0, 2];
 

@@ -1,9 +1,10 @@
 // A first look at the library: a queens board as rows, a right and a wrong filling judged, an answer turned into truth
-// values and back, and how many answers the boards have.
+// values and back, how many answers the boards have, and a board through stacks of reductions.
 #![tactic(auto)]
 
 mod counting;
 mod drawing;
+mod stacking;
 
 use anyhow::anyhow;
 use counting::count_boards;
@@ -11,6 +12,7 @@ use drawing::Grid;
 use itertools::Itertools;
 use puzzles::{Puzzle, Queens, bill, decode, encode, fill, first_false};
 use rows::count_true;
+use stacking::through_stacks;
 
 const RIGHT: [u8; 6] = [1, 3, 5, 0, 2, 4];
 
@@ -31,6 +33,7 @@ fn tour(rt: &HostRuntime) -> anyhow::Result<()> {
     judge_filling(rt, &queens, &WRONG)?;
     there_and_back(rt, &queens, &RIGHT)?;
     count_boards(rt)?;
+    through_stacks(rt)?;
     refusals(rt, &mut queens)?;
     counting::refusals(rt)
 }

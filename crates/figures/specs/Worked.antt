@@ -1,5 +1,5 @@
 -- Figures that were worked out by hand from the rules, said of the definitions.
-use Rattle.std.specs.Prelude.{◌≡◌, ℕ, zero, suc, ◌+◌, Bool, true, false, List, [], ◌∷◌, ◌++◌, map, filter, replicate, Some, None, Option, slice_set}
+use Rattle.std.specs.Prelude.{◌≡◌, ℕ, zero, suc, ◌+◌, Bool, true, false, List, [], ◌∷◌, ◌++◌, map, filter, length, replicate, Some, None, Option, nat_eq, slice_set}
 use Rattle.rows.specs.declared.kinds.Kind.{Kind}
 use Rattle.rows.specs.declared.kinds.Kind.TheVariants.{Triples as OfThree}
 use Rattle.rows.specs.declared.stops.Fault.{Fault}
@@ -41,7 +41,7 @@ foot kind w = record {
   stop = open_stop kind w;
   vars = 0;
   owed = counts [];
-  solves = λ xs. false;
+  solves = λ xs. nat_eq (length xs) 0;
   drawn = [];
   current = None;
   joints = [];

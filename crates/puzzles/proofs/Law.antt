@@ -105,7 +105,7 @@ module _ (b : Board) (k : Lined b) (xs : List Bool) (solved : solution b xs ≡ 
       rw same (all-below (λ p. trues (map test (cells_of b.size p)) ≡ 1) b.places p h hold)
 
   -- so it agrees with its decoding
-  decoded-fills : Fills b.size b.places (valuation xs) (decode b xs)
+  pub decoded-fills : Fills b.size b.places (valuation xs) (decode b xs)
   decoded-fills p v h l =
       let n = length-block b.size b.places xs wide p h in
       sym (block_at b.size b.places xs wide p h v l)

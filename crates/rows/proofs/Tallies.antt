@@ -14,7 +14,7 @@ trues-append [] ys = omega arith
 trues-append (x ∷ xs) ys = let e = trues-append xs ys in omega arith
 
 -- one row more counts at its own length
-rows-push : (rows : List (List ℕ)) (row : List ℕ) (k : ℕ) → rows_of_length (rows ++ row ∷ []) k ≡ rows_of_length rows k + cond (eqb (length row) k) 1 0
+pub rows-push : (rows : List (List ℕ)) (row : List ℕ) (k : ℕ) → rows_of_length (rows ++ row ∷ []) k ≡ rows_of_length rows k + cond (eqb (length row) k) 1 0
 rows-push rows row k = ap trues (map_push (λ (r : List ℕ). eqb (length r) k) rows row) ∙ (trues-append (map (λ (r : List ℕ). eqb (length r) k) rows) (eqb (length row) k ∷ []) ∙ omega arith)
 
 rows_few : (rows : List (List ℕ)) (k : ℕ) → rows_of_length rows k ≤ length rows

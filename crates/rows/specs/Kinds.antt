@@ -1,5 +1,6 @@
 -- The kinds of rows: their numbers, how long their rows are, and how many true positions make one true.
 use Rattle.std.specs.Prelude.{ℕ, ◌+◌, Bool, cond, Some, None, Ok, Err, Option, Result, ◌==◌, nat_le, nat_lt}
+use Rattle.std.specs.Option.{unwrap_or}
 use Rattle.rows.specs.declared.kinds.Kind.{Kind}
 use Rattle.rows.specs.declared.kinds.Kind.TheVariants.{Cover, Clauses, Short, Triples}
 use Rattle.rows.specs.declared.stops.Fault.{Fault}
@@ -23,6 +24,10 @@ kind_number Triples = 4
 -- the kind that has a number, if one has
 abbrev pub kind_numbered : ℕ → Option Kind
 kind_numbered n = cond (n == 1) (Some Cover) (cond (n == 2) (Some Clauses) (cond (n == 3) (Some Short) (cond (n == 4) (Some Triples) None)))
+
+-- the kind of a solver that is made by a number: the kind that has it, or the lowest
+abbrev pub made_kind : ℕ → Kind
+made_kind n = unwrap_or (kind_numbered n) Cover
 
 -- a kind that is there, else the stop for a number n that no kind has
 abbrev pub offered : ℕ → Option Kind → Result Kind Fault

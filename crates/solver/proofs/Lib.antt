@@ -1,2 +1,3 @@
 pub mod Aparts
 pub mod Refusals
+pub mod Keeping

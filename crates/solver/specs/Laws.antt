@@ -14,6 +14,12 @@ pub record OneToOne (j : Joint) : Type 0 where
   pub extends : (xs : List Bool) → j.above xs ≡ true → (ys : List Bool) × (j.below ys ≡ true) × (take (length xs) ys ≡ xs)
   pub only : (xs ys zs : List Bool) → j.above xs ≡ true → j.below ys ≡ true → j.below zs ≡ true → take (length xs) ys ≡ xs → take (length xs) zs ≡ xs → ys ≡ zs
 
+-- the joints of a stack hang together: the topmost is where its own solutions stand above, and each other where those below the one
+-- before do
+abbrev pub Chained : (List Bool → Bool) → List Joint → Type 0
+Chained solves [] = Unit {0}
+Chained solves (j ∷ js) = (j.above ≡ solves) × Chained j.below js
+
 -- no two of a list are equal
 abbrev pub Apart : {X : Type 0} → List X → Type 0
 Apart [] = Unit {0}
@@ -44,7 +50,9 @@ pub record Lawful (m : Meaning) : Type 0 where
   pub waits : (k : ℕ) → shortest m.owed ≡ Some k → m.drawn ≡ []
   -- what is current was drawn last
   pub last : (xs : List Bool) → m.current ≡ Some xs → Last xs m.drawn
-  -- while no row is owed, every joint matches solutions one to one
+  -- the joints are those of its solutions
+  pub chained : Chained m.solves m.joints
+  -- and while no row is owed, every one matches solutions one to one
   pub matched : Ready m → All OneToOne m.joints
 
 -- newly made: no variables and no rows, so that the empty list is the one solution, and nothing is drawn

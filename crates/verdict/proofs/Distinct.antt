@@ -30,7 +30,7 @@ other-stays x y before after m ne =
     (mathlib.Core.List.Memᴰ.append_cases before m)
 
 -- distinct elements of a list are no more than it has
-apart-few : {X : Type 0} (xs ys : List X) → Apart xs → All (λ x. Memᴰ x ys) xs → length xs ≤ length ys
+pub apart-few : {X : Type 0} (xs ys : List X) → Apart xs → All (λ x. Memᴰ x ys) xs → length xs ≤ length ys
 apart-few [] ys d k = omega arith
 apart-few {X} (x ∷ xs) ys d k =
     let s = split_at x ys (All-head (λ z. Memᴰ z ys) x xs k) in

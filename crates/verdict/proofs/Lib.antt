@@ -2,7 +2,6 @@ pub mod Distinct
 pub mod Fillings
 pub mod Matching
 pub mod Dues
-pub mod Keeping
 pub mod Misfits
 pub mod Posting
 pub mod Drawing

@@ -138,6 +138,7 @@ module _ (t : Rule) (n h : ℕ) (b : List ℕ) (m : Meaning) (w : Lawful m) (j :
     apart = drawn-apart (shortest b) refl;
     waits = λ k e. let (l, p) = owes-at 0 b k e in rw (j.waits l p) refl;
     last = λ xs e. let (ys, i, k) = some-above m.current n xs e in let (earlier, d) = w.last ys i in (map (take n) earlier, ap (map (take n)) d ∙ map_push (take n) earlier ys ∙ ap (λ zs. map (take n) earlier ++ (zs ∷ [])) k);
+    chained = (refl, w.chained);
     matched = λ e. All-cons OneToOne (record { above = solves_above n m; below = m.solves }) m.joints
         (record {
           extends = λ xs s. let (ys, p, k) = below xs s in (ys, p, ap (λ i. take i ys) (eqb-true _ _ (and_parts _ _ s).0) ∙ k);

@@ -3,7 +3,8 @@ ghost use Rattle.std.specs.Prelude.{◌≡◌, ◌+◌, vec_len};
 ghost use Rattle.rows.specs.Stops.{Unless};
 ghost use Rattle.solver.specs.Laws.{Fresh};
 ghost use Rattle.search.specs.Backtracking.{backtracks};
-ghost use Rattle.search.specs.Kinds.{kind_stop, made_kind};
+ghost use Rattle.rows.specs.Kinds.{made_kind};
+ghost use Rattle.search.specs.Kinds.{kind_stop};
 ghost use Rattle.search.specs.Room.{open_stop, space};
 
 use crate::backtracker::Backtracker;

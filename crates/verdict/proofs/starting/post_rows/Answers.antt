@@ -1,5 +1,5 @@
 use Rattle.std.proofs.Common.{rules, tests, inl, refl}
-use Rattle.verdict.proofs.Keeping.{kept-twice}
+use Rattle.solver.proofs.Keeping.{kept-twice}
 use Rattle.verdict.proofs.Posting.{posting-none, posting-free, posting-more, posting-all}
 use Rattle.verdict.proofs.starting.post_rows.Goals as goal
 

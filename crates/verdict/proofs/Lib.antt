@@ -5,3 +5,7 @@ pub mod Dues
 pub mod Misfits
 pub mod Posting
 pub mod Drawing
+pub mod KnownAnswers
+pub mod KnownStops
+pub mod Current
+pub mod Asking

@@ -1,0 +1,4 @@
+pub mod Fronts
+pub mod Telling
+pub mod Promising
+pub mod Reading

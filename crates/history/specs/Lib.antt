@@ -1,0 +1,3 @@
+pub mod Histories
+pub mod Performing
+pub mod Promises

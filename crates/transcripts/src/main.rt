@@ -4,6 +4,7 @@
 
 mod making;
 mod playing;
+mod reading;
 
 use making::play_on;
 

@@ -3,6 +3,7 @@ use crate::playing::Player;
 use anyhow::anyhow;
 use reductions::{Chain, Narrow, Pairs, Reduced, Triples};
 use search::Backtracker;
+use tables::TruthTable;
 
 // Plays a part: the line that makes its solver, and the calls on it. Lines before the first such line are remarks.
 pub(crate) fn play_on(rt: &HostRuntime, part: &[String]) -> anyhow::Result<()> {
@@ -26,8 +27,31 @@ pub(crate) fn play_on(rt: &HostRuntime, part: &[String]) -> anyhow::Result<()> {
     if let Err(fault) = Backtracker::check_kind(kind) {
         print!(rt; "{fault}; ")?;
     }
+    let stack = words.next().unwrap_or("straight");
+    if words.next() == Some("table") {
+        let foot = TruthTable::new(kind, vec![in rt.alloc(); true; room]?);
+        return play_table(rt, stack, foot, calls);
+    }
     let foot = Backtracker::new(kind, vec![in rt.alloc(); 7u16; room]?);
-    play_stack(rt, words.next().unwrap_or("straight"), foot, calls)
+    play_stack(rt, stack, foot, calls)
+}
+
+// make KIND ROOM STACK table: the same upon a truth table, which has so many cells.
+fn play_table(
+    rt: &HostRuntime,
+    stack: &str,
+    foot: TruthTable,
+    calls: &[String],
+) -> anyhow::Result<()> {
+    match stack {
+        "straight" => Player::new(foot).begin(rt, calls),
+        "pairs" => Player::new(Reduced::new(Pairs, foot)).begin(rt, calls),
+        "triples" => Player::new(Reduced::new(Triples, foot)).begin(rt, calls),
+        "pairs/chain" => Player::new(Reduced::new(Pairs, Reduced::new(Chain, foot))).begin(
+            rt, calls,
+        ),
+        _ => Err(anyhow!("no such stack")),
+    }
 }
 
 // make KIND ROOM STACK: the reductions of the stack from the top, as pairs/chain, upon a backtracker. One arm for each, since each

@@ -1,9 +1,10 @@
-// One call after another on a solver.
+// One line after another on a solver.
+use crate::reading::{is_call, read_bytes, read_call, read_givens, read_numbers};
 use anyhow::anyhow;
-use puzzles::{Given, Queens};
-use rows::{Bill, Fault};
-use solver::{Drawn, Solver};
-use verdict::count;
+use history::{Answer, replay};
+use puzzles::Queens;
+use solver::Solver;
+use verdict::{Verdict, count, verdict};
 
 #[derive(Drop)]
 pub(crate) struct Player<S: Solver + Drop> {
@@ -15,129 +16,74 @@ impl<S: Solver + Drop> Player<S> {
         Player { solver }
     }
 
-    // The kind of the solver, and then its calls.
-    pub(crate) fn begin(self, rt: &HostRuntime, calls: &[String]) -> anyhow::Result<()> {
+    // The kind of the solver, and then its lines.
+    pub(crate) fn begin(self, rt: &HostRuntime, lines: &[String]) -> anyhow::Result<()> {
         let kind = u8::from(self.solver.kind());
         println!(rt; "kind {kind}")?;
-        self.play(rt, calls)
+        self.play(rt, lines)
     }
 
-    pub(crate) fn play(self, rt: &HostRuntime, calls: &[String]) -> anyhow::Result<()> {
+    // Calls that follow one another are performed as one list.
+    pub(crate) fn play(self, rt: &HostRuntime, lines: &[String]) -> anyhow::Result<()> {
         let mut player = self;
-        for line in calls {
-            player.step(rt, line.as_str())?;
+        for stretch in lines.chunk_by(|a, b| is_call(a.as_str()) == is_call(b.as_str())) {
+            if stretch.first().is_some_and(|line| is_call(line.as_str())) {
+                player.perform(rt, stretch)?;
+            } else {
+                player.step_all(rt, stretch)?;
+            }
         }
         Ok(())
     }
 
-    // A line is a call and its numbers; one that begins with a sharp is a remark, and is printed as it is.
+    fn perform(&mut self, rt: &HostRuntime, lines: &[String]) -> anyhow::Result<()> {
+        let mut read = Vec::new(rt.alloc());
+        for line in lines {
+            read.push(read_call(rt, line.as_str())?)?;
+        }
+        let mut calls = Vec::new(rt.alloc());
+        for call in &read {
+            calls.push(call.call())?;
+        }
+        let answers = replay(rt.alloc(), &mut self.solver, calls.as_slice())?;
+        for (line, answer) in lines.iter().zip(answers.iter()) {
+            print!(rt; "{}: ", line.as_str())?;
+            show(rt, answer)?;
+        }
+        Ok(())
+    }
+
+    fn step_all(&mut self, rt: &HostRuntime, lines: &[String]) -> anyhow::Result<()> {
+        for line in lines {
+            self.step(rt, line.as_str())?;
+        }
+        Ok(())
+    }
+
+    // A question about a board; a line that begins with a sharp is a remark, and is printed as it is.
     fn step(&mut self, rt: &HostRuntime, line: &str) -> anyhow::Result<()> {
-        let mut words = line.split_whitespace();
-        let Some(call) = words.next() else {
+        let Some(word) = line.split_whitespace().next() else {
             return Ok(());
         };
-        if call.starts_with("#") {
+        if word.starts_with("#") {
             println!(rt; "{line}")?;
             return Ok(());
         }
-        let mut numbers = Vec::new(rt.alloc());
-        for word in words {
-            numbers.push(word.parse::<u64>()?)?;
-        }
         print!(rt; "{line}: ")?;
-        // one arm for each word: a table of closures would say no more, and each call has its own numbers to read
-        match call {
-            "open" => self.open(rt, numbers.as_slice()),
-            "post" => self.post(rt, numbers.as_slice()),
-            "next" => self.next(rt),
-            "value" => self.value(rt, numbers.as_slice()),
-            "rewind" => self.rewind(rt),
+        let numbers = read_numbers(rt, line)?;
+        match word {
             "count" => self.count(rt, numbers.as_slice()),
+            "verdict" => self.verdict(rt, numbers.as_slice()),
             _ => Err(anyhow!("no such call")),
         }
     }
 
-    // open VARIABLES, and then for each length with rows LENGTH COUNT.
-    fn open(&mut self, rt: &HostRuntime, numbers: &[u64]) -> anyhow::Result<()> {
-        let Some((vars, pairs)) = numbers.split_first() else {
-            return Err(anyhow!("open wants a number of variables"));
-        };
-        let mut bill = Bill::empty();
-        for pair in pairs.chunks(2) {
-            if let [len, count] = pair {
-                let len = usize::try_from(*len)?;
-                if len < bill.counts.len() {
-                    bill.counts[len] = u32::try_from(*count)?;
-                }
-            }
-        }
-        show(rt, self.solver.open(u32::try_from(*vars)?, &bill))
-    }
-
-    // post LITERAL ..
-    fn post(&mut self, rt: &HostRuntime, numbers: &[u64]) -> anyhow::Result<()> {
-        let mut row = Vec::new(rt.alloc());
-        for number in numbers {
-            row.push(u16::try_from(*number)?)?;
-        }
-        show(rt, self.solver.post(row.as_slice()))
-    }
-
-    // next, with the value of each variable, 1 for true, of what was found.
-    fn next(&mut self, rt: &HostRuntime) -> anyhow::Result<()> {
-        match self.solver.next() {
-            Ok(Drawn::Found) => self.show_current(rt),
-            Ok(Drawn::Exhausted) => {
-                println!(rt; "none")?;
-                Ok(())
-            }
-            Err(fault) => {
-                println!(rt; "{fault}")?;
-                Ok(())
-            }
-        }
-    }
-
-    fn show_current(&self, rt: &HostRuntime) -> anyhow::Result<()> {
-        print!(rt; "found")?;
-        for value in (0..u32::MAX).map_while(|i| self.solver.value(i)) {
-            print!(rt; " {}", u8::from(value))?;
-        }
-        println!(rt; "")?;
-        Ok(())
-    }
-
-    // value VARIABLE
-    fn value(&self, rt: &HostRuntime, numbers: &[u64]) -> anyhow::Result<()> {
-        let [variable] = numbers else {
-            return Err(anyhow!("value wants a variable"));
-        };
-        match self.solver.value(u32::try_from(*variable)?) {
-            Some(value) => println!(rt; "{value}")?,
-            None => println!(rt; "absent")?,
-        }
-        Ok(())
-    }
-
-    fn rewind(&mut self, rt: &HostRuntime) -> anyhow::Result<()> {
-        self.solver.rewind();
-        println!(rt; "ok")?;
-        Ok(())
-    }
-
     // count LIMIT SIZE, and then for each given PLACE VALUE: the answers of a queens board.
     fn count(&mut self, rt: &HostRuntime, numbers: &[u64]) -> anyhow::Result<()> {
-        let [limit, size, others @ ..] = numbers else {
+        let [limit, size, givens @ ..] = numbers else {
             return Err(anyhow!("count wants a limit and a size"));
         };
-        let mut givens = Vec::new(rt.alloc());
-        for pair in others.chunks(2) {
-            if let [place, value] = pair {
-                let place = u8::try_from(*place)?;
-                let value = u8::try_from(*value)?;
-                givens.push(Given { place, value })?;
-            }
-        }
+        let givens = read_givens(rt, givens)?;
         let mut queens = Queens::new();
         queens.make(usize::try_from(*size)?, givens.as_slice())?;
         match count(&queens, &mut self.solver, *limit) {
@@ -147,13 +93,54 @@ impl<S: Solver + Drop> Player<S> {
         }
         Ok(())
     }
+
+    // verdict ROOM SIZE, and then the bytes of the known answers: whether an empty queens board has another, and what then stands in
+    // a buffer of so many nines.
+    fn verdict(&mut self, rt: &HostRuntime, numbers: &[u64]) -> anyhow::Result<()> {
+        let [room, size, bytes @ ..] = numbers else {
+            return Err(anyhow!("verdict wants the size of a buffer and of a board"));
+        };
+        let mut queens = Queens::new();
+        queens.make(usize::try_from(*size)?, &[])?;
+        let known = read_bytes(rt, bytes)?;
+        let mut buffer = vec![in rt.alloc(); 9u8; usize::try_from(*room)?]?;
+        match verdict(
+            &queens,
+            known.as_slice(),
+            &mut self.solver,
+            buffer.as_mut_slice(),
+        ) {
+            Ok(Verdict::Another { draws }) => print!(rt; "another after {draws} draws")?,
+            Ok(Verdict::None { draws }) => print!(rt; "none after {draws} draws")?,
+            Err(fault) => print!(rt; "{fault}")?,
+        }
+        print!(rt; ", buffer")?;
+        for byte in &buffer {
+            print!(rt; " {byte}")?;
+        }
+        println!(rt; "")?;
+        Ok(())
+    }
 }
 
-// What a call that gives nothing back was answered.
-fn show(rt: &HostRuntime, answer: Result<(), Fault>) -> anyhow::Result<()> {
+fn show(rt: &HostRuntime, answer: &Answer) -> anyhow::Result<()> {
     match answer {
-        Ok(()) => println!(rt; "ok")?,
-        Err(fault) => println!(rt; "{fault}")?,
+        Answer::Accepted => println!(rt; "ok")?,
+        Answer::Refused(fault) => println!(rt; "{fault}")?,
+        Answer::Found(values) => show_list(rt, values.as_slice())?,
+        Answer::Exhausted => println!(rt; "none")?,
+        Answer::Valued(Some(value)) => println!(rt; "{value}")?,
+        Answer::Valued(None) => println!(rt; "absent")?,
     }
+    Ok(())
+}
+
+// The value of each variable, 1 for true.
+fn show_list(rt: &HostRuntime, values: &[bool]) -> anyhow::Result<()> {
+    print!(rt; "found")?;
+    for value in values {
+        print!(rt; " {}", u8::from(*value))?;
+    }
+    println!(rt; "")?;
     Ok(())
 }

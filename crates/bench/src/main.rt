@@ -1,5 +1,5 @@
 // Counts queens boards and says how much work that was. The first argument says how, `straight` on the backtracker or through a
-// `stack` of pairs, chain and triples; each further one is a size.
+// `stack` of pairs, chain and triples, or `asking` for another answer until there is none; each further one is a size.
 #![tactic(auto)]
 
 use anyhow::anyhow;
@@ -8,7 +8,7 @@ use reductions::{Chain, Pairs, Reduced, Triples, lower};
 use search::{Backtracker, Effort};
 use std::env;
 use std::time::Instant;
-use verdict::count;
+use verdict::{Verdict, count, verdict};
 
 fn main(rt: HostRuntime) -> anyhow::Result<()> {
     run(&rt)
@@ -19,17 +19,13 @@ fn run(rt: &HostRuntime) -> anyhow::Result<()> {
     let Some(how) = words.next() else {
         return Ok(());
     };
-    let stacked = match how.as_str() {
-        "straight" => false,
-        "stack" => true,
-        _ => return Err(anyhow!("the first argument is `straight` or `stack`")),
-    };
     for word in words {
         let size = word.parse::<usize>()?;
-        if stacked {
-            measure_stack(rt, size)?;
-        } else {
-            measure_straight(rt, size)?;
+        match how.as_str() {
+            "straight" => measure_straight(rt, size)?,
+            "stack" => measure_stack(rt, size)?,
+            "asking" => measure_asking(rt, size)?,
+            _ => return Err(anyhow!("the first argument is `straight`, `stack` or `asking`")),
         }
     }
     Ok(())
@@ -68,6 +64,36 @@ fn measure_stack(rt: &HostRuntime, size: usize) -> anyhow::Result<()> {
     )
 }
 
+// Asks for another answer, each time with all that were found so far known, until there is none.
+fn measure_asking(rt: &HostRuntime, size: usize) -> anyhow::Result<()> {
+    let mut queens = Queens::new();
+    queens.make(size, &[])?;
+    let room = Backtracker::room(queens.vars(), &bill(&queens));
+    let work = vec![in rt.alloc(); 0u16; room as usize]?;
+    let mut solver = Backtracker::new(1, work);
+    let mut answer = vec![in rt.alloc(); 0u8; size]?;
+    let mut known = Vec::new(rt.alloc());
+    let start = Instant::now(rt)?;
+    for asked in 0..u64::MAX {
+        match verdict(
+            &queens,
+            known.as_slice(),
+            &mut solver,
+            answer.as_mut_slice(),
+        )? {
+            Verdict::Another { .. } => known.extend_from_slice(answer.as_slice())?,
+            Verdict::None { draws } => {
+                let seconds = in_seconds(rt, start.elapsed(rt)?.as_millis())?;
+                println!(rt;
+                    "queens {size}: {asked} times another, then none after {draws} draws, {seconds}"
+                )?;
+                break;
+            }
+        }
+    }
+    Ok(())
+}
+
 fn report(
     rt: &HostRuntime,
     size: usize,
@@ -77,10 +103,15 @@ fn report(
 ) -> anyhow::Result<()> {
     let nodes = effort.nodes;
     let visits = effort.visits;
-    let seconds = millis / 1000;
-    let thousandths = millis % 1000;
+    let seconds = in_seconds(rt, millis)?;
     println!(rt;
-        "queens {size}: {answers} answers, {nodes} nodes, {visits} row visits, {seconds}.{thousandths:03} seconds"
+        "queens {size}: {answers} answers, {nodes} nodes, {visits} row visits, {seconds}"
     )?;
     Ok(())
+}
+
+fn in_seconds(rt: &HostRuntime, millis: u128) -> anyhow::Result<String> {
+    let seconds = millis / 1000;
+    let thousandths = millis % 1000;
+    Ok(format!(in rt.alloc(); "{seconds}.{thousandths:03} seconds")?)
 }

@@ -5,7 +5,9 @@ use std::process::Abort;
 use std::test::Fail;
 
 mod counts;
+mod histories;
 mod stacks;
+mod verdicts;
 
 const ANSWER: [u8; 4] = [1, 3, 0, 2];
 

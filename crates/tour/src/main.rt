@@ -1,7 +1,8 @@
 // A first look at the library: a queens board as rows, a right and a wrong filling judged, an answer turned into truth
-// values and back, how many answers the boards have, and a board through stacks of reductions.
+// values and back, how many answers the boards have, a board through stacks of reductions, and whether it has another answer.
 #![tactic(auto)]
 
+mod asking;
 mod counting;
 mod drawing;
 mod stacking;
@@ -34,8 +35,10 @@ fn tour(rt: &HostRuntime) -> anyhow::Result<()> {
     there_and_back(rt, &queens, &RIGHT)?;
     count_boards(rt)?;
     through_stacks(rt)?;
+    asking::ask(rt)?;
     refusals(rt, &mut queens)?;
-    counting::refusals(rt)
+    counting::refusals(rt)?;
+    asking::refusals(rt)
 }
 
 // What the board comes to as rows; in words of its own, so the like line of the program `boards` is not shared.

@@ -4,3 +4,4 @@ pub mod Wording
 pub mod Scans
 pub mod Limits
 pub mod Opposites
+pub mod Judged

@@ -1,11 +1,11 @@
-use Rattle.std.proofs.Common.{rules, tests, inl, refl}
+use Rattle.std.proofs.Common.{inl, refl, ◌∙◌}
 use Rattle.solver.proofs.Keeping.{kept-twice}
 use Rattle.verdict.proofs.Posting.{posting-none, posting-free, posting-more, posting-all}
 use Rattle.verdict.proofs.starting.post_rows.Goals as goal
 
 pub loop-row-init : goal.loop-row-init
 loop-row-init g c = record {
-  posting = posting-none (g.P.Puzzle.board c.args.puzzle.now) c.into_iter-row-iterator.result (g.S.Solver.means c.args.solver.now) (search (rules, tests)) c.requires.kind c.requires.opened;
+  posting = posting-none (g.P.Puzzle.board c.args.puzzle.now) c.into_iter-row-iterator.result (g.S.Solver.means c.args.solver.now) (c.into_iter-row-iterator.ensures.into_iter_gives ∙ search (refl)) c.requires.kind c.requires.opened;
   kept = record { kind = refl; stop = refl };
   sound = c.requires.sound;
 }

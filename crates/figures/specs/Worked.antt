@@ -38,7 +38,7 @@ under t l = record { n = l.n + helped t 0 l.bill; bill = bill_below t l.bill }
 abbrev pub foot : Kind → ℕ → Meaning
 foot kind w = record {
   kind = kind;
-  stop = open_stop kind w;
+  stop = open_stop 1 kind w;
   vars = 0;
   owed = counts [];
   solves = λ xs. nat_eq (length xs) 0;

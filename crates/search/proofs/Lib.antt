@@ -2,7 +2,11 @@ pub mod Passes
 pub mod Spaces
 pub mod Reslotting
 pub mod Moving
+pub mod Marking
 pub mod Seeing
 pub mod Conclusions
 pub mod Appending
 pub mod Values
+pub mod Numbering
+pub mod Judged
+pub mod SweepDraws

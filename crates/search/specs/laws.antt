@@ -1,8 +1,12 @@
--- The proofs of the laws that the backtracker gives as a solver. No contract cites them.
+-- The proofs of the laws that the final solvers give. No contract cites them.
 pub mod Packed
 pub mod Steps
 pub mod Bridge
 pub mod Moves
+pub mod Undoing
 pub mod Taking
 pub mod Ordering
+pub mod Drawing
 pub mod Standing
+pub mod Coding
+pub mod Swept

@@ -1,17 +1,14 @@
 // The backtracker: a final solver of any kind that draws in order, true before false from variable 0.
-ghost use Rattle.std.specs.Prelude.{◌≡◌, true, ◌++◌};
-ghost use Rattle.search.specs.Postures.{drawn_by, left_by, solutions, stands};
-
-use crate::outcomes::Posture;
-use crate::store::Store;
+use crate::drawing::Drawing;
 
 mod making;
 mod solving;
 
+/// The backtracker: of any kind, draws true before false at the first variable in which two solutions differ.
+///
+/// It takes n variables and a bill where its workspace has n numbers and those that the rows take (`room`), and uses no other memory.
+// It remembers a slot for each variable, so that a step back undoes all values above the decision.
 #[derive(Drop)]
 pub struct Backtracker {
-    store: Store,
-    posture: Posture,
-    ghost standing: { stands posture store ≡ true },
-    ghost order: { drawn_by posture store ++ left_by posture store ≡ solutions store },
+    drawing: Drawing,
 }

@@ -8,13 +8,17 @@ ghost use Rattle.search.specs.Kinds.{kind_stop};
 ghost use Rattle.search.specs.Room.{open_stop, space};
 
 use crate::backtracker::Backtracker;
-use crate::outcomes::{Effort, Posture};
-use crate::store::{Store, space_of};
+use crate::drawing::Drawing;
+use crate::outcomes::Effort;
+use crate::store::room;
 use rows::{Bill, Fault, Kind, Stop};
 
+// A search without levels has one number for each variable.
+const SLOTS: u32 = 1;
+
 impl Backtracker {
-    // The check before making: stop 14 where no kind has this number. All four kinds are offered. A plain number, since one that
-    // is no kind has to be refusable.
+    /// The check before making: stop 14 where no kind has this number, with the number as its place. All four kinds are offered.
+    // a plain number, since one that is no kind has to be refusable
     pub fn check_kind(kind: u64) -> Result<(), Fault>
         ensures { Unless (kind_stop kind) (Unit {0}) (Unit {0}) result }
     {
@@ -22,39 +26,38 @@ impl Backtracker {
         Ok(())
     }
 
-    // A new backtracker of the kind of this number, or of kind 1 where no kind has it: a plain number, since making is never
-    // refused. The workspace is its only memory.
+    /// A new backtracker of the kind of this number, or of kind 1 where no kind has it, since making is never refused. It has no
+    /// variables and no rows.
     pub fn new(kind: u64, work: Vec<u16>) -> Backtracker
         ensures kind { (backtracks result).kind ≡ made_kind kind }
-        ensures takes { (backtracks result).stop ≡ open_stop (made_kind kind) (vec_len work) }
+        ensures takes { (backtracks result).stop ≡ open_stop 1 (made_kind kind) (vec_len work) }
         ensures fresh { Fresh (backtracks result) }
     {
         let offered = Kind::try_from(kind).unwrap_or(Kind::Cover);
         Backtracker {
-            store: Store::new(offered, work),
-            posture: Posture::Before,
+            drawing: Drawing::new(offered, SLOTS, work),
         }
     }
 
-    // The smallest workspace with which so many variables and a bill within the limits are taken.
+    /// The smallest workspace, in two-byte numbers, with which so many variables and a bill within the limits are taken.
     pub fn room(vars: u32, bill: &Bill) -> u64
         ensures { result ≡ vars + space 0 bill.now.counts }
     {
-        vars as u64 + space_of(bill)
+        room(SLOTS, vars, bill)
     }
 
-    // Gives the workspace back, as long as it was; what it holds is of no use to anyone.
+    /// Gives the workspace back, as long as it was; what it holds is of no use to anyone.
     pub fn into_workspace(self) -> Vec<u16>
-        ensures { result ≡ self.store.work }
+        ensures { result ≡ self.drawing.search.store.work }
     {
-        let Backtracker { store, .. } = self;
-        store.into_workspace()
+        let Backtracker { drawing, .. } = self;
+        drawing.into_workspace()
     }
 
-    // How much it has worked since it was made. The numbers are for measurements, and no promise rests on them.
+    /// How much it has worked since it was made. The numbers are for measurements, and no promise rests on them.
     pub fn effort(&self) -> Effort
-        ensures { result ≡ self.now.store.effort }
+        ensures { result ≡ self.now.drawing.search.effort }
     {
-        self.store.effort
+        self.drawing.search.effort
     }
 }

@@ -15,4 +15,4 @@ pub invariant_of-self-clause-room : goal.invariant_of-self-clause-room
 invariant_of-self-clause-room c = append-room c.args.self.now c.args.row.now c.requires
 
 pub returns : goal.returns
-returns c = record { kind = refl; vars = refl; owed = refl; rows = append-stored c.args.self.now c.args.row.now c.requires c.write_row.new.work (search rules) (cc); work = refl }
+returns c = record { kind = refl; each = refl; vars = refl; owed = refl; rows = append-stored c.args.self.now c.args.row.now c.requires c.write_row.new.work (search rules) (cc); work = refl }

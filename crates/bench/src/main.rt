@@ -1,11 +1,15 @@
-// Counts queens boards and says how much work that was. The first argument says how, `straight` on the backtracker or through a
-// `stack` of pairs, chain and triples, or `asking` for another answer until there is none; each further one is a size.
+// Counts queens boards and says how much work that was. The first argument says how, `straight` on the backtracker, through
+// `pairs` on the backtracker and on dpll, or through a `stack` of pairs, chain and triples, or `asking` for another answer until
+// there is none; or `latin` to count Latin squares, straight too. Each further one is a size.
 #![tactic(auto)]
 
 use anyhow::anyhow;
-use puzzles::{Puzzle, Queens, bill};
+use latin::Latin;
+use puzzles::{Puzzle, bill};
+use queens::Queens;
 use reductions::{Chain, Pairs, Reduced, Triples, lower};
-use search::{Backtracker, Effort};
+use search::{Backtracker, Dpll, Effort};
+use solver::Solver;
 use std::env;
 use std::time::Instant;
 use verdict::{Verdict, count, verdict};
@@ -22,25 +26,70 @@ fn run(rt: &HostRuntime) -> anyhow::Result<()> {
     for word in words {
         let size = word.parse::<usize>()?;
         match how.as_str() {
-            "straight" => measure_straight(rt, size)?,
+            "straight" => measure_queens(rt, size)?,
+            "latin" => measure_latin(rt, size)?,
+            "pairs" => measure_pairs(rt, size)?,
             "stack" => measure_stack(rt, size)?,
             "asking" => measure_asking(rt, size)?,
-            _ => return Err(anyhow!("the first argument is `straight`, `stack` or `asking`")),
+            _ => {
+                return Err(anyhow!(
+                    "the first argument is `straight`, `pairs`, `stack`, `asking` or `latin`"
+                ));
+            }
         }
     }
     Ok(())
 }
 
-fn measure_straight(rt: &HostRuntime, size: usize) -> anyhow::Result<()> {
+fn measure_queens(rt: &HostRuntime, size: usize) -> anyhow::Result<()> {
     let mut queens = Queens::new();
     queens.make(size, &[])?;
-    let room = Backtracker::room(queens.vars(), &bill(&queens));
+    measure_straight(rt, "queens", &queens)
+}
+
+fn measure_latin(rt: &HostRuntime, size: usize) -> anyhow::Result<()> {
+    let mut latin = Latin::new();
+    latin.make(size, &[])?;
+    measure_straight(rt, "latin", &latin)
+}
+
+fn measure_straight<P: Puzzle>(rt: &HostRuntime, name: &str, puzzle: &P) -> anyhow::Result<()> {
+    let room = Backtracker::room(puzzle.vars(), &bill(puzzle));
     // kind 1, of which the rows of puzzles are
     let mut solver = Backtracker::new(1, vec![in rt.alloc(); 0u16; room as usize]?);
+    let (answers, millis) = count_timed(rt, puzzle, &mut solver)?;
+    print!(rt; "{name} {}: ", puzzle.size())?;
+    report(rt, answers, solver.effort(), millis)
+}
+
+// How many answers there are, and in how many milliseconds that was found.
+fn count_timed<P: Puzzle, S: Solver>(
+    rt: &HostRuntime,
+    puzzle: &P,
+    solver: &mut S,
+) -> anyhow::Result<(u64, u128)> {
     let start = Instant::now(rt)?;
-    let (answers, _) = count(&queens, &mut solver, u64::MAX)?;
-    let millis = start.elapsed(rt)?.as_millis();
-    report(rt, size, answers, solver.effort(), millis)
+    let (answers, _) = count(puzzle, solver, u64::MAX)?;
+    Ok((answers, start.elapsed(rt)?.as_millis()))
+}
+
+// The same clauses on either solver of them.
+fn measure_pairs(rt: &HostRuntime, size: usize) -> anyhow::Result<()> {
+    let mut queens = Queens::new();
+    queens.make(size, &[])?;
+    let (vars, clauses) = lower(&Pairs, queens.vars(), &bill(&queens))?;
+    let room = Backtracker::room(vars, &clauses);
+    let foot = Backtracker::new(2, vec![in rt.alloc(); 0u16; room as usize]?);
+    let mut solver = Reduced::new(Pairs, foot);
+    let (answers, millis) = count_timed(rt, &queens, &mut solver)?;
+    print!(rt; "queens {size} on the backtracker: ")?;
+    report(rt, answers, solver.below().effort(), millis)?;
+    let room = Dpll::room(vars, &clauses);
+    let foot = Dpll::new(2, vec![in rt.alloc(); 0u16; room as usize]?);
+    let mut solver = Reduced::new(Pairs, foot);
+    let (answers, millis) = count_timed(rt, &queens, &mut solver)?;
+    print!(rt; "queens {size} on dpll: ")?;
+    report(rt, answers, solver.below().effort(), millis)
 }
 
 fn measure_stack(rt: &HostRuntime, size: usize) -> anyhow::Result<()> {
@@ -52,16 +101,9 @@ fn measure_stack(rt: &HostRuntime, size: usize) -> anyhow::Result<()> {
     let room = Backtracker::room(vars, &triples);
     let foot = Backtracker::new(4, vec![in rt.alloc(); 0u16; room as usize]?);
     let mut solver = Reduced::new(Pairs, Reduced::new(Chain, Reduced::new(Triples, foot)));
-    let start = Instant::now(rt)?;
-    let (answers, _) = count(&queens, &mut solver, u64::MAX)?;
-    let millis = start.elapsed(rt)?.as_millis();
-    report(
-        rt,
-        size,
-        answers,
-        solver.below().below().below().effort(),
-        millis,
-    )
+    let (answers, millis) = count_timed(rt, &queens, &mut solver)?;
+    print!(rt; "queens {size}: ")?;
+    report(rt, answers, solver.below().below().below().effort(), millis)
 }
 
 // Asks for another answer, each time with all that were found so far known, until there is none.
@@ -94,19 +136,11 @@ fn measure_asking(rt: &HostRuntime, size: usize) -> anyhow::Result<()> {
     Ok(())
 }
 
-fn report(
-    rt: &HostRuntime,
-    size: usize,
-    answers: u64,
-    effort: Effort,
-    millis: u128,
-) -> anyhow::Result<()> {
+fn report(rt: &HostRuntime, answers: u64, effort: Effort, millis: u128) -> anyhow::Result<()> {
     let nodes = effort.nodes;
     let visits = effort.visits;
     let seconds = in_seconds(rt, millis)?;
-    println!(rt;
-        "queens {size}: {answers} answers, {nodes} nodes, {visits} row visits, {seconds}"
-    )?;
+    println!(rt; "{answers} answers, {nodes} nodes, {visits} row visits, {seconds}")?;
     Ok(())
 }
 

@@ -10,6 +10,7 @@ unfolding bill_of bill_below opposite truth_of
 by-computing = record {
   gadget = refl;
   four = (refl, refl);
+  square = refl;
   twelve_pairs = refl;
   twelve_triples = refl;
   twelve_taken = refl;

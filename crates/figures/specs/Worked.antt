@@ -10,7 +10,8 @@ use Rattle.rows.specs.Truth.{all_hold, valuation}
 use Rattle.solver.specs.Meaning.{Meaning}
 use Rattle.search.specs.Room.{open_stop}
 use Rattle.puzzles.specs.Boards.{Board, rows, vars}
-use Rattle.puzzles.specs.Queens.{queens}
+use Rattle.latin.specs.Latin.{latin}
+use Rattle.queens.specs.Queens.{queens}
 use Rattle.reductions.specs.Bills.{bill_below, helped}
 use Rattle.reductions.specs.Joints.{joint_stop, reduced}
 use Rattle.reductions.specs.Rules.{Rule}
@@ -78,8 +79,10 @@ pub record Worked : Type 0 where
       ∷ []
   -- a row of four through chain: one helper, two rows of two and two of three
   pub four : (chain.helpers 4 ≡ 1) × (bill_below chain (counts ((4, 1) ∷ [])) ≡ counts ((2, 2) ∷ (3, 2) ∷ []))
-  -- twelve rows of two over eight variables: 24 rows below pairs, and below chain and triples 24 rows over 32 variables; 128 numbers are
-  -- enough for these, and with one less the solver at the foot refuses them, three joints deep
+  -- the Latin square of size 2 poses twelve rows of two over eight variables
+  pub square : posed (latin 2 []) ≡ twelve
+  -- these are 24 rows below pairs, and below chain and triples 24 rows over 32 variables; 128 numbers are enough for those, and with one
+  -- less the solver at the foot refuses them, three joints deep
   pub twelve_pairs : under pairs twelve ≡ record { n = 8; bill = counts ((2, 24) ∷ []) }
   pub twelve_triples : under triples (under chain (under pairs twelve)) ≡ record { n = 32; bill = counts ((3, 24) ∷ []) }
   pub twelve_taken : stack_stop 128 twelve ≡ None

@@ -7,7 +7,7 @@ use Rattle.std.proofs.lemmas.List.{length-map, length-take-le, get_or-map, get_o
 use Rattle.std.proofs.lemmas.Bool.{eqb-true, eq-eqb}
 use Rattle.std.proofs.lemmas.Bool.Decides.{nat_tests}
 use Rattle.rows.specs.Truth.{trues}
-use Rattle.puzzles.specs.Lines.{Cell, at, taken, hits, board_values, values_of}
+use Rattle.puzzles.specs.Lines.{Cell, at, board_values, hits, taken, values_of}
 
 -- where none is true, each is false
 none_true : (ts : List Bool) → trues ts ≡ 0 → (w : ℕ) → get_or ts w false ≡ false

@@ -1,27 +1,13 @@
 -- The words of the specs as what chains of iterators compute.
-use Rattle.std.proofs.Common.{◌≡◌, ℕ, zero, suc, ◌+◌, Bool, not, ◌&&◌, eqb, ltb, List, length, get_or, count_by, refl, ap, ◌∙◌, arith}
+use Rattle.std.proofs.Common.{◌≡◌, ℕ, Bool, eqb, List, length, get_or, count_by, sym, refl, ap, ◌∙◌, arith}
 use Rattle.std.specs.List.{range_with_len, list_all}
 use Rattle.std.proofs.lemmas.List.FromFn.{fill_by_all}
 use Rattle.std.proofs.lemmas.List.Folds.{list_all-map}
 use Rattle.std.proofs.lemmas.List.Recursion.{is_count_by}
-use Rattle.std.proofs.lemmas.Bool.{eqb-true}
 use Rattle.std.proofs.lemmas.Bool.Decides.{nat_tests}
 use Rattle.rows.proofs.Scans.{first-is-first, first-is-position}
-use Rattle.puzzles.specs.Words.{every, times}
-use Rattle.puzzles.specs.declared.givens.Given.{Given}
-use Rattle.puzzles.specs.Queens.{aligned, queens_answer}
-use Rattle.puzzles.specs.laws.Every.{same_after}
-use Rattle.puzzles.proofs.GivenScans.{given-list}
-
--- one number more in a range
-list_all-more : (t : ℕ → Bool) (a n : ℕ) → list_all t (range_with_len a (suc n)) ≡ (t (a + n) && list_all t (range_with_len a n))
-list_all-more t a zero = grind (arith, nat_tests)
-list_all-more t a (suc n) = let e = list_all-more t (a + 1) n in let k : a + suc n ≡ a + 1 + n = omega arith in rw (e, k) (grind (arith, nat_tests))
-
--- a test at every number below n, as `all` over the range
-pub every-range : (n : ℕ) (t : ℕ → Bool) → list_all t (range_with_len 0 n) ≡ every n t
-every-range zero t = refl
-every-range (suc n) t = list_all-more t 0 n ∙ rw (every-range n t) (grind (arith, nat_tests))
+use Rattle.puzzles.specs.Words.{each_once, every, times}
+use Rattle.puzzles.proofs.Every.{every-range, every-same}
 
 -- a test of the element at every index, as `all` over the list
 pub every-list : {X : Type 0} (t : X → Bool) (xs : List X) (d : X) → list_all t xs ≡ every (length xs) (λ i. t (get_or xs i d))
@@ -34,9 +20,13 @@ every-list t xs d =
 pub times-count : (v : ℕ) (xs : List ℕ) → times v xs ≡ count_by (λ x. eqb x v) xs
 times-count v xs = is_count_by (times v) (λ x. eqb x v) refl (λ x ys. grind (arith, nat_tests)) xs
 
+-- equal tests at every number below n, as `all` over the range
+pub every-all : (n : ℕ) (t u : ℕ → Bool) → ((k : ℕ) → t k ≡ u k) → every n t ≡ list_all u (range_with_len 0 n)
+every-all n t u h = every-same n t u (λ k l. h k) ∙ sym (every-range n u)
+
+-- each value once, by such counts
+pub once-counted : (n : ℕ) (xs : List ℕ) → each_once n xs ≡ list_all (λ v. eqb (count_by (λ x. eqb x v) xs) 1) (range_with_len 0 n)
+once-counted n xs = every-all n (λ v. eqb (times v xs) 1) (λ v. eqb (count_by (λ x. eqb x v) xs) 1) (λ v. ap (λ m. eqb m 1) (times-count v xs))
+
 -- the first that fails: that it is what it is called, and that `position` finds it
 pub ruleset firsts = (first-is-first, first-is-position)
-
--- what an answer of queens is, by the checks that the code makes
-pub queens_checked : (n : ℕ) (gs : List Given) (a : List ℕ) → queens_answer n gs a ≡ (eqb (length a) n && (list_all (λ x. ltb x n) a && (list_all (λ c. eqb (count_by (λ x. eqb x c) a) 1) (range_with_len 0 n) && (list_all (λ j. list_all (λ i. not (aligned a i j)) (range_with_len 0 j)) (range_with_len 0 (length a)) && list_all (λ g. eqb (get_or a g.place 0) g.value) gs))))
-queens_checked n gs a = same_after (eqb (length a) n) _ _ (λ h. let e = eqb-true (length a) n h in simp (e, every-range, times-count, given-list, every-list (λ x. ltb x n) a 0))

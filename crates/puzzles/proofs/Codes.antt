@@ -7,8 +7,8 @@ use Rattle.rows.specs.declared.stops.Fault.{Fault}
 use Rattle.rows.specs.declared.stops.Stop.TheVariants.{Wrong}
 use Rattle.rows.specs.Stops.{here}
 use Rattle.rows.specs.Truth.{valuation, holds, all_hold, first_false}
-use Rattle.puzzles.specs.Boards.{Board, Faithful, vars, rows, encode, decode}
-use Rattle.puzzles.specs.Calls.{fill_stop, encode_stop, decode_stop, failing, Encoded, Decoded}
+use Rattle.puzzles.specs.Boards.{Board, Faithful, decode, encode, rows, vars}
+use Rattle.puzzles.specs.Calls.{Decoded, Encoded, decode_stop, encode_stop, failing, fill_stop}
 
 -- an answer that is filled in is encoded
 pub encode-done : (b : Board) → Faithful b → (a : List ℕ) (before after : List Bool) → fill_stop b (length a) (length before) ≡ None → b.answer a ≡ true → after ≡ encode b a ++ drop (vars b) before → (encode_stop b a (length before) ≡ None) × Encoded b a before after

@@ -8,11 +8,11 @@ use Rattle.std.proofs.lemmas.List.{length-append, get_or_append_left, get_or-app
 use Rattle.std.proofs.lemmas.Bool.{and_parts, and_from, eqb-true, eq-eqb, cases_lt}
 use Rattle.rows.specs.declared.kinds.Kind.TheVariants.{Cover}
 use Rattle.rows.specs.Truth.{valuation, trues, all_hold}
-use Rattle.puzzles.specs.Lines.{Cell, Line, On, Inside, taken, hits, all_met, variable_of, rows_from, board_values, slack_values}
-use Rattle.puzzles.specs.Boards.{Board, Lined, LinedAreFaithful, cells, vars, rows, solution, encode, decode}
-use Rattle.puzzles.proofs.Blocks.{one-true, leading-is, length-board, board-at, length-block, block_at, length-values, values-at, cells_of, length-tested, tested_at, value-below}
+use Rattle.puzzles.specs.Boards.{Board, Lined, LinedAreFaithful, cells, decode, encode, rows, solution, vars}
+use Rattle.puzzles.specs.Lines.{Cell, Inside, Line, On, all_met, board_values, hits, rows_from, slack_values, taken, variable_of}
+use Rattle.puzzles.proofs.Blocks.{block_at, board-at, cells_of, leading-is, length-block, length-board, length-tested, length-values, one-true, tested_at, value-below, values-at}
+use Rattle.puzzles.proofs.Slacks.{Agrees, AgreesOn, gives, gives-from, gives_at, length-slack_values, places-hold, places-met, rows-exact}
 use Rattle.puzzles.proofs.Writing.{place-below}
-use Rattle.puzzles.proofs.Slacks.{gives, gives-from, gives_at, length-slack_values, Agrees, AgreesOn, rows-exact, places-met, places-hold}
 
 -- what holds of all numbers below n holds of each
 all-below : (P : ℕ → Type 0) (n p : ℕ) → p < n → All P (range_with_len 0 n) → P p

@@ -8,8 +8,13 @@ pub mod Reading
 pub mod Writing
 pub mod Lasts
 pub mod SlackSteps
+pub mod Every
+pub mod Hits
+pub mod Insides
+pub mod Made
+pub mod GivenLines
 pub mod Chains
-pub mod GivenScans
+pub mod Makings
 pub mod Runs
 pub mod LineRows
-pub mod QueensRows
+pub mod Pairs

@@ -5,8 +5,8 @@ use Rattle.std.specs.List.{All}
 use Rattle.std.proofs.lemmas.List.Elements.{All-nil, All-cons, All-head, All-tail, All-append, All-map, All-weaker, All-get_or}
 use Rattle.std.proofs.lemmas.Bool.Decides.{nat_tests}
 use Rattle.rows.specs.Truth.{first_wide}
-use Rattle.puzzles.specs.Lines.{Cell, Line, On, Inside, variable_of, row_of, rows_from, slacks}
-use Rattle.puzzles.specs.Boards.{Board, Lined, cells, vars, rows}
+use Rattle.puzzles.specs.Boards.{Board, Lined, cells, rows, vars}
+use Rattle.puzzles.specs.Lines.{Cell, Inside, Line, On, row_of, rows_from, slacks, variable_of}
 
 -- where each variable is below n, none is too wide
 pub not_wide : (n i : ℕ) (row : List ℕ) → All (λ l. l / 2 < n) row → first_wide n i row ≡ None

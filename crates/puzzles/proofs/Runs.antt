@@ -1,85 +1,93 @@
--- Rows whose variables stand at equal distances, and the diagonals as such.
-use Rattle.std.proofs.Common.{◌≡◌, ℕ, zero, suc, ◌+◌, ◌-◌, ◌*◌, ◌<◌, ◌≤◌, Bool, true, false, cond, ◌&&◌, ltb, leb, List, [], ◌∷◌, ◌++◌, map, length, refl, ap, ◌∙◌, ⊎_elim, append-nil, add-mul, mul-le-mul_left, mul-add, arith}
+-- Rows that are filled from the front, and those whose variables stand at equal distances.
+use Rattle.std.proofs.Common.{◌≡◌, ℕ, ◌+◌, ◌-◌, ◌*◌, ◌<◌, ◌≤◌, Bool, true, false, cond, ◌&&◌, ltb, List, [], ◌∷◌, ◌++◌, map, length, Some, None, Option, sym, refl, ap, ◌∙◌, ⊎_elim, append-nil, arith}
 use mathlib.Core.List.{map-map}
-use native.Mathlib.Nat.{mul-sub}
-use Rattle.std.specs.List.{range_with_len, flat_map}
+use Rattle.std.specs.List.{range_with_len}
 use Rattle.std.proofs.lemmas.List.FromFn.{length-map-range_with_len, get_or-map-range_with_len, map-range_with_len_more, fill_by_all}
-use Rattle.std.proofs.lemmas.Bool.{cases_lt}
+use Rattle.std.proofs.lemmas.Nat.{mul-le}
+use Rattle.std.proofs.lemmas.Bool.{cases_Bool}
 use Rattle.std.proofs.lemmas.Bool.Decides.{nat_tests}
-use Rattle.puzzles.specs.Lines.{Cell, at, plain, variable_of, row_of}
-use Rattle.puzzles.specs.Queens.{column, falling, rising}
-use Rattle.puzzles.specs.laws.DiagonalCells.{falling-cells, rising-cells}
+use Rattle.rows.specs.Kinds.{longest}
+use Rattle.rows.specs.Literals.{within}
+use Rattle.puzzles.specs.Filling.{extended, run_of, run_fits, run_row}
+use Rattle.puzzles.specs.Lines.{Cell, at, plain, row_of, variable_of}
 
--- the literals of `count` variables from `start` on, each `step` after the one before
-abbrev pub run_of : ℕ → ℕ → ℕ → List ℕ
-run_of start step count = map (λ k. 2 * (start + k * step)) (range_with_len 0 count)
-
--- how many there are
-pub length_run : (start step count : ℕ) → length (run_of start step count) ≡ count
+-- how many literals a run has
+length_run : (start step count : ℕ) → length (run_of start step count) ≡ count
 length_run start step count = length-map-range_with_len (λ k. 2 * (start + k * step)) 0 count
 
--- one variable more
-pub run_more : (start step k v : ℕ) (xs ys : List ℕ) → xs ≡ run_of start step k → v ≡ start + k * step → ys ≡ xs ++ (2 * v) ∷ [] → ys ≡ run_of start step (k + 1)
-run_more start step k v xs ys e p q = let m = map-range_with_len_more (λ k. 2 * (start + k * step)) 0 k k (omega arith) in cc
+-- more than the variables of any board
+abbrev pub many : ℕ
+many = 1024
+
+-- among so few variables a run makes a row
+pub run-made : (start step count : ℕ) (o : Option (List ℕ)) → o ≡ run_row start step count → count ≤ longest → start < many → step < many → o ≡ Some (run_of start step count)
+run-made start step count o e h l k =
+    let m = mul-le (count - 1) step longest many (omega arith) (omega arith) in
+    let f : run_fits start step count ≡ true = grind (arith, nat_tests) in
+    e ∙ rw f refl
+
+-- what is there only where a test passes
+only-where : {A : Type 0} (b : Bool) (x y : A) → cond b (Some x) None ≡ Some y → (b ≡ true) × (y ≡ x)
+only-where true x y e = (refl, cc)
+only-where false x y e = cc
+
+-- a row that a run made is the run
+pub run-is : (start step count : ℕ) (o : Option (List ℕ)) (row : List ℕ) → o ≡ run_row start step count → o ≡ Some row → row ≡ run_of start step count
+run-is start step count o row e f = (only-where (run_fits start step count) (run_of start step count) row (sym e ∙ f)).1
+
+-- a row that was made longer has the variable at its end
+pub extended-is : (row : List ℕ) (v : ℕ) (o : Option (List ℕ)) (longer : List ℕ) → o ≡ extended row v → o ≡ Some longer → longer ≡ row ++ (2 * v) ∷ []
+extended-is row v o longer e f = (only-where (ltb v within && ltb (length row) longest) (row ++ (2 * v) ∷ []) longer (sym e ∙ f)).1
+
+-- a row with room can be made longer
+pub extended-made : (row : List ℕ) (v : ℕ) (o : Option (List ℕ)) → o ≡ extended row v → length row < longest → v < within → o ≡ Some (row ++ (2 * v) ∷ [])
+extended-made row v o e h l =
+    let f : (ltb v within && ltb (length row) longest) ≡ true = grind (arith, nat_tests) in
+    e ∙ rw f refl
+
+-- so can a run, by its slack
+pub run-extended : (start step count v : ℕ) (o r : Option (List ℕ)) (row : List ℕ) → o ≡ run_row start step count → o ≡ Some row → r ≡ extended row v → count < longest → v < within → r ≡ Some (run_of start step count ++ (2 * v) ∷ [])
+run-extended start step count v o r row e f g h l =
+    let s = run-is start step count o row e f in
+    let n : length row ≡ count = ap length s ∙ length_run start step count in
+    extended-made row v r g (omega arith) l ∙ ap (λ (xs : List ℕ). Some (xs ++ (2 * v) ∷ [])) s
+
+-- a longer run does not fit either
+longer-unfit : (start step k count : ℕ) → k < count → run_fits start step (k + 1) ≡ false → run_fits start step count ≡ false
+longer-unfit start step k count h e = let m = mul-le k step (count - 1) step (omega arith) (omega arith) in grind (arith, nat_tests)
+
+-- one variable more in a row that is a run
+module _ (start step k : ℕ) (row : List ℕ) (made : run_row start step k ≡ Some row) where
+  -- the row and the next variable are the next run, or both are none
+  pub run-next : (v : ℕ) → v ≡ start + k * step → extended row v ≡ run_row start step (k + 1)
+  run-next v e =
+      let b = only-where (run_fits start step k) (run_of start step k) row made in
+      let p = b.0 in
+      let l : length row ≡ k = ap length b.1 ∙ length_run start step k in
+      let f : (ltb v within && ltb (length row) longest) ≡ run_fits start step (k + 1) = (let n : k + 1 - 1 ≡ k = omega arith in rw n (grind (arith, nat_tests))) in
+      let m : run_of start step (k + 1) ≡ row ++ (2 * v) ∷ [] = rw (e, b.1) (map-range_with_len_more (λ k. 2 * (start + k * step)) 0 k k (omega arith)) in
+      rw (f, m) refl
+
+  -- where the next variable does not fit, no longer run does
+  pub run-ends : (v count : ℕ) → v ≡ start + k * step → k < count → extended row v ≡ None → run_row start step count ≡ None
+  run-ends v count e h n =
+      ⊎_elim {C = run_row start step count ≡ None}
+      (λ (t : run_fits start step (k + 1) ≡ true). let z : None ≡ Some (run_of start step (k + 1)) = sym n ∙ (run-next v e ∙ rw t refl) in cc)
+      (λ (f : run_fits start step (k + 1) ≡ false). rw (longer-unfit start step k count h f) refl)
+      (cases_Bool (run_fits start step (k + 1)))
 
 -- literals made from numbers that go up by one
 run-from : (f : ℕ → ℕ) (start step i m : ℕ) → ((k : ℕ) → k < m → f (i + k) ≡ 2 * (start + k * step)) → map f (range_with_len i m) ≡ run_of start step m
 run-from f start step i m h = fill_by_all (λ k. 2 * (start + k * step)) (map f (range_with_len i m)) m 0 (length-map-range_with_len f i m) (λ k l. get_or-map-range_with_len f i m k (i + k) 0 l refl ∙ h k l)
 
 -- and so the row of cells made from them
-cells-run : (n : ℕ) (f : ℕ → Cell) (start step i m : ℕ) → ((k : ℕ) → k < m → variable_of n (f (i + k)) ≡ start + k * step) → map (λ c. 2 * variable_of n c) (map f (range_with_len i m)) ≡ run_of start step m
+pub cells-run : (n : ℕ) (f : ℕ → Cell) (start step i m : ℕ) → ((k : ℕ) → k < m → variable_of n (f (i + k)) ≡ start + k * step) → map (λ c. 2 * variable_of n c) (map f (range_with_len i m)) ≡ run_of start step m
 cells-run n f start step i m h = map-map (λ c. 2 * variable_of n c) f (range_with_len i m) ∙ run-from (λ k. 2 * variable_of n (f k)) start step i m (λ k l. ap (λ v. 2 * v) (h k l))
-
--- of a range, the items of a range within it
-joined-between : {A : Type 0} (b : ℕ → Bool) (g : ℕ → A) (lo count i m : ℕ) → i ≤ lo → lo + count ≤ i + m → ((p : ℕ) → i ≤ p → p < i + m → b p ≡ (leb lo p && ltb p (lo + count))) → flat_map (λ p. cond (b p) (g p ∷ []) []) (range_with_len i m) ≡ map g (range_with_len lo count)
-joined-between b g lo zero i zero l u h = refl
-joined-between b g lo (suc c) i zero l u h = absurd (omega arith)
-joined-between b g lo zero i (suc m) l u h =
-    let e : b i ≡ false = h i (omega arith) (omega arith) ∙ grind (arith, nat_tests) in
-    rw e (joined-between b g (i + 1) zero (i + 1) m (omega arith) (omega arith) (λ p k v. h p (omega arith) (omega arith) ∙ grind (arith, nat_tests)))
-joined-between b g lo (suc c) i (suc m) l u h =
-    ⊎_elim {C = flat_map (λ p. cond (b p) (g p ∷ []) []) (range_with_len i (suc m)) ≡ map g (range_with_len lo (suc c))}
-    (λ (below : i < lo).
-    let e : b i ≡ false = h i (omega arith) (omega arith) ∙ grind (arith, nat_tests) in
-    rw e (joined-between b g lo (suc c) (i + 1) m (omega arith) (omega arith) (λ p k v. h p (omega arith) (omega arith))))
-    (λ (reached : lo ≤ i).
-    let e : b i ≡ true = h i (omega arith) (omega arith) ∙ grind (arith, nat_tests) in
-    let q : lo ≡ i = omega arith in
-    rw (e, q) (ap (λ xs. g i ∷ xs) (joined-between b g (i + 1) c (i + 1) m (omega arith) (omega arith) (λ p k v. h p (omega arith) (omega arith) ∙ grind (arith, nat_tests)))))
-    (cases_lt i lo)
-
--- the row of a falling diagonal that begins in board row lo
-falling-run : (n d lo count start s : ℕ) → n ≤ lo + d → lo + count ≤ n → start ≡ lo * n + (lo + d - n) → ((p : ℕ) → p < n → (leb n (p + d) && ltb (p + d) (n + n)) ≡ (leb lo p && ltb p (lo + count))) → row_of n s (falling n d) ≡ run_of start (n + 1) count ++ (2 * s) ∷ []
-falling-run n d lo count start s h l e t =
-    ap (λ cs. map (λ c. 2 * variable_of n c) cs ++ (2 * s) ∷ []) (falling-cells n d ∙ joined-between (λ p. leb n (p + d) && ltb (p + d) (n + n)) (λ p. at p (p + d - n)) lo count 0 n (omega arith) (omega arith) (λ p i k. t p (omega arith)))
-    ∙ ap (λ xs. xs ++ (2 * s) ∷ []) (cells-run n (λ p. at p (p + d - n)) start (n + 1) lo count (λ k i. omega (arith, add-mul lo k n, mul-add k n 1)))
-
--- falling from the first board row on
-pub falling-high : (n d s : ℕ) → n ≤ d → d < 2 * n → row_of n s (falling n d) ≡ run_of (d - n) (n + 1) (2 * n - d) ++ (2 * s) ∷ []
-falling-high n d s l h = falling-run n d 0 (2 * n - d) (d - n) s (omega arith) (omega arith) (omega arith) (λ p k. grind (arith, nat_tests))
-
--- falling from the first column on
-pub falling-low : (n d s : ℕ) → d < n → row_of n s (falling n d) ≡ run_of ((n - d) * n) (n + 1) d ++ (2 * s) ∷ []
-falling-low n d s h = falling-run n d (n - d) d ((n - d) * n) s (omega arith) (omega arith) (omega arith) (λ p k. grind (arith, nat_tests))
-
--- the row of a rising diagonal that begins in board row lo
-rising-run : (n d lo count start s : ℕ) → 0 < n → lo + count ≤ n → lo + count ≤ d + 1 → start ≡ lo * n + (d - lo) → ((p : ℕ) → p < n → (leb p d && ltb (d - p) n) ≡ (leb lo p && ltb p (lo + count))) → row_of n s (rising n d) ≡ run_of start (n - 1) count ++ (2 * s) ∷ []
-rising-run n d lo count start s z l h e t =
-    ap (λ cs. map (λ c. 2 * variable_of n c) cs ++ (2 * s) ∷ []) (rising-cells n d ∙ joined-between (λ p. leb p d && ltb (d - p) n) (λ p. at p (d - p)) lo count 0 n (omega arith) (omega arith) (λ p i k. t p (omega arith)))
-    ∙ ap (λ xs. xs ++ (2 * s) ∷ []) (cells-run n (λ p. at p (d - p)) start (n - 1) lo count (λ k i. omega (arith, add-mul lo k n, mul-sub k n 1, mul-le-mul_left k z)))
-
--- rising from the first board row on
-pub rising-low : (n d s : ℕ) → d < n → row_of n s (rising n d) ≡ run_of d (n - 1) (d + 1) ++ (2 * s) ∷ []
-rising-low n d s h = rising-run n d 0 (d + 1) d s (omega arith) (omega arith) (omega arith) (omega arith) (λ p k. grind (arith, nat_tests))
-
--- rising from the last column on
-pub rising-high : (n d s : ℕ) → n ≤ d → d + 1 < 2 * n → row_of n s (rising n d) ≡ run_of ((d - n + 1) * n + n - 1) (n - 1) (2 * n - 1 - d) ++ (2 * s) ∷ []
-rising-high n d s l h = rising-run n d (d - n + 1) (2 * n - 1 - d) ((d - n + 1) * n + n - 1) s (omega arith) (omega arith) (omega arith) (omega arith) (λ p k. grind (arith, nat_tests))
 
 -- the row of a board row
 pub place-run : (n p s : ℕ) → row_of n s (plain (map (at p) (range_with_len 0 n))) ≡ run_of (p * n) 1 n
 place-run n p s = append-nil _ ∙ cells-run n (at p) (p * n) 1 0 n (λ k l. omega arith)
 
--- the row of a column
-pub column-run : (n c s : ℕ) → row_of n s (column n c) ≡ run_of c n n
-column-run n c s = append-nil _ ∙ cells-run n (λ p. at p c) c n 0 n (λ k l. omega arith)
+-- the row of a value
+pub value-run : (n m v s : ℕ) → row_of n s (plain (map (λ p. at p v) (range_with_len 0 m))) ≡ run_of v n m
+value-run n m v s = append-nil _ ∙ cells-run n (λ p. at p v) v n 0 m (λ k l. omega arith)

@@ -6,9 +6,9 @@ use Rattle.std.proofs.lemmas.List.Elements.{All-get_or, All-weaker}
 use Rattle.std.proofs.lemmas.List.{length-append, length-drop, get_or_append_left, take_all, drop_at, drop-drop}
 use Rattle.std.proofs.lemmas.Bool.{cases_Bool}
 use Rattle.rows.specs.Truth.{valuation, truths, trues}
-use Rattle.puzzles.specs.Lines.{Cell, Line, On, Inside, plain, taken, hits, variable_of, row_of, rows_from, slacks, board_values, slack_values}
-use Rattle.puzzles.specs.Boards.{Board, Lined, cells, vars, rows, encode}
-use Rattle.puzzles.proofs.Blocks.{length-board, board-at}
+use Rattle.puzzles.specs.Boards.{Board, Lined, cells, encode, rows, vars}
+use Rattle.puzzles.specs.Lines.{Cell, Inside, Line, On, board_values, hits, plain, row_of, rows_from, slack_values, slacks, taken, variable_of}
+use Rattle.puzzles.proofs.Blocks.{board-at, length-board}
 use Rattle.puzzles.proofs.LineRows.{length-rows}
 use Rattle.puzzles.proofs.Narrow.{cells-narrow}
 use Rattle.puzzles.proofs.Slacks.{length-slack_values, row_count}

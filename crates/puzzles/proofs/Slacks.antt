@@ -8,7 +8,7 @@ use Rattle.std.proofs.lemmas.Bool.Decides.{nat_tests}
 use Rattle.rows.specs.declared.kinds.Kind.TheVariants.{Cover}
 use Rattle.rows.specs.Literals.{truth_of}
 use Rattle.rows.specs.Truth.{truths, trues, all_hold}
-use Rattle.puzzles.specs.Lines.{Cell, Line, at, plain, taken, hits, all_met, variable_of, row_of, rows_from, slacks, slack_values}
+use Rattle.puzzles.specs.Lines.{Cell, Line, all_met, at, hits, plain, row_of, rows_from, slack_values, slacks, taken, variable_of}
 use Rattle.puzzles.proofs.Blocks.{cells_of}
 
 -- the literal of a variable is as true as the variable

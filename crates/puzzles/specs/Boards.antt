@@ -3,7 +3,7 @@ use Rattle.std.specs.Prelude.{◌≡◌, ℕ, ◌+◌, ◌*◌, Bool, true, ◌&
 use Rattle.std.specs.List.{All}
 use Rattle.rows.specs.declared.kinds.Kind.TheVariants.{Cover}
 use Rattle.rows.specs.Truth.{valuation, all_hold}
-use Rattle.puzzles.specs.Lines.{Line, Inside, all_met, place_lines, rows_from, slacks, board_values, slack_values, values_of}
+use Rattle.puzzles.specs.Lines.{Inside, Line, all_met, board_values, place_lines, rows_from, slack_values, slacks, values_of}
 
 pub record Board : Type 0 where
   -- values are 0 to size - 1

@@ -5,7 +5,7 @@ use Rattle.rows.specs.declared.stops.Fault.{Fault}
 use Rattle.rows.specs.declared.stops.Stop.TheVariants.{Small, Length, Wrong}
 use Rattle.rows.specs.Stops.{Unless, here, stop_if, ◌then_if◌}
 use Rattle.rows.specs.Truth.{valuation, first_false}
-use Rattle.puzzles.specs.Boards.{Board, vars, rows, solution, encode, decode}
+use Rattle.puzzles.specs.Boards.{Board, decode, encode, rows, solution, vars}
 
 -- to fill k truth values from m bytes: room for all variables, and a byte for each place
 abbrev pub fill_stop : Board → ℕ → ℕ → Option Fault

@@ -2,7 +2,6 @@ pub mod Lines
 pub mod Boards
 pub mod Calls
 pub mod Words
+pub mod Making
 pub mod Givens
-pub mod Queens
-pub mod QueensMade
-pub mod laws
+pub mod Filling

@@ -48,6 +48,10 @@ all_met a (l ∷ ls) = met a l && all_met a ls
 abbrev pub place_lines : ℕ → ℕ → List Line
 place_lines size places = map (λ p. plain (map (at p) (range_with_len 0 size))) (range_with_len 0 places)
 
+-- each value has one place: a line for each value, by places
+abbrev pub value_lines : ℕ → ℕ → List Line
+value_lines size places = map (λ v. plain (map (λ p. at p v) (range_with_len 0 places))) (range_with_len 0 size)
+
 -- the rows of lines: the variable of a cell is place * size + value, and slack variables follow from s on, in the order of their rows
 abbrev pub variable_of : ℕ → Cell → ℕ
 variable_of size c = c.place * size + c.value

@@ -10,3 +10,7 @@ every (suc n) test = test n && every n test
 -- how often a value stands in a list
 abbrev pub times : ℕ → List ℕ → ℕ
 times v a = trues (map (nat_eq v) a)
+
+-- each value below n stands once in a list
+abbrev pub each_once : ℕ → List ℕ → Bool
+each_once n a = every n (λ v. nat_eq (times v a) 1)

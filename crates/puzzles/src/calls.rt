@@ -11,7 +11,7 @@ use crate::boards::Puzzle;
 use crate::walking::rows_of;
 use rows::{Bill, Fault, Kind, Stop, judge};
 
-// The bill of a puzzle: how many of its rows have each length.
+/// The bill of a puzzle: how many of its rows have each length.
 pub fn bill<P: Puzzle>(puzzle: &P) -> Bill
     ensures { result.counts ≡ bill_of (board_rows (P.Puzzle.board puzzle.now)) }
 {
@@ -22,8 +22,8 @@ pub fn bill<P: Puzzle>(puzzle: &P) -> Bill
     bill
 }
 
-// The index of the first row that is not true, or none where all are.
-// Stop 3 where there is not a value for each variable.
+/// The index of the first row that is not true, or none where all are.
+/// Stop 3 where there is not a value for each variable.
 #[tactic(auto, using(crate::proofs::Chains::firsts))]
 pub fn first_false<P: Puzzle>(puzzle: &P, values: &[bool]) -> Result<Option<u32>, Fault>
     ensures value { result ≡ failing (P.Puzzle.board puzzle.now) values.now }

@@ -1,17 +1,24 @@
-// Checks on the values of a filled board.
+// Checks on the values of a filled board that puzzles share.
 ghost use Rattle.std.specs.Prelude.{◌≡◌, ◌==◌, count_by, nat_lt};
-ghost use Rattle.std.specs.List.{list_all};
+ghost use Rattle.std.specs.List.{list_all, range_with_len};
 
-// Whether every value is below the size.
-pub(crate) fn all_below(size: usize, answer: &[u8]) -> bool
+/// Whether every value is below the size.
+pub fn all_below(size: usize, answer: &[u8]) -> bool
     ensures { result ≡ list_all (λ x. nat_lt x size) answer.now }
 {
     answer.iter().all(|value| (*value as usize) < size)
 }
 
 // How often a value stands in a list.
-pub(crate) fn count_value(value: usize, answer: &[u8]) -> usize
+fn count_value(value: usize, answer: &[u8]) -> usize
     ensures { result ≡ count_by (λ x. x == value) answer.now }
 {
     answer.iter().filter(|x| **x as usize == value).count()
+}
+
+/// Whether each value below the size stands once in a list.
+pub fn each_once(size: usize, answer: &[u8]) -> bool
+    ensures { result ≡ list_all (λ v. count_by (λ x. x == v) answer.now == 1) (range_with_len 0 size) }
+{
+    (0..size).all(|value| count_value(value, answer) == 1)
 }

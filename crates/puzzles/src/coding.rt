@@ -13,9 +13,9 @@ use crate::calls::first_false;
 use crate::walking::rows_of;
 use rows::{Fault, Literal, Stop, count_true, variable};
 
-// The truth values of a filled board, right or wrong, into the first of `values`; the rest stays as it is.
-// A byte of the size or more makes no variable of its place true; a slack is true where no cell of its row is.
-// Stop 13 where there is no room for all variables, stop 3 where there is not a byte for each place.
+/// The truth values of a filled board, right or wrong, into the first of `values`; the rest stays as it is.
+/// A byte of the size or more makes no variable of its place true; a slack is true where no cell of its row is.
+/// Stop 13 where there is no room for all variables, stop 3 where there is not a byte for each place.
 pub fn fill<P: Puzzle>(puzzle: &P, answer: &[u8], values: &mut [bool]) -> Result<(), Fault>
     ensures { Fills (P.Puzzle.board puzzle.now) answer.now values.old values.new result }
 {
@@ -24,8 +24,8 @@ pub fn fill<P: Puzzle>(puzzle: &P, answer: &[u8], values: &mut [bool]) -> Result
     Ok(())
 }
 
-// The truth values of an answer, by which every row is true. Stops 13 and 3 as for any filled board, then stop 5, place 0,
-// where the bytes are no answer.
+/// The truth values of an answer, by which every row is true. Stops 13 and 3 as for any filled board, then stop 5, place 0,
+/// where the bytes are no answer.
 pub fn encode<P: Puzzle>(puzzle: &P, answer: &[u8], values: &mut [bool]) -> Result<(), Fault>
     ensures { Encodes (P.Puzzle.board puzzle.now) answer.now values.old values.new result }
 {
@@ -37,9 +37,9 @@ pub fn encode<P: Puzzle>(puzzle: &P, answer: &[u8], values: &mut [bool]) -> Resu
     Ok(())
 }
 
-// The answer that truth values stand for, into the first bytes of `answer`; the rest stays as it is.
-// Stop 13 where there is no room for all places, stop 3 where there is not a value for each variable, stop 5, place 0,
-// where a row is not true.
+/// The answer that truth values stand for, into the first bytes of `answer`; the rest stays as it is.
+/// Stop 13 where there is no room for all places, stop 3 where there is not a value for each variable, stop 5, place 0,
+/// where a row is not true.
 pub fn decode<P: Puzzle>(puzzle: &P, values: &[bool], answer: &mut [u8]) -> Result<(), Fault>
     ensures { Decodes (P.Puzzle.board puzzle.now) values.now answer.old answer.new result }
 {

@@ -1,30 +1,31 @@
-// Rows of board variables.
-ghost use Rattle.std.specs.Prelude.{◌≡◌, ◌+◌, ◌*◌, ◌<◌, ◌≤◌, [], ◌∷◌, ◌++◌, map, length};
-ghost use Rattle.rows.specs.Kinds.{longest};
-ghost use Rattle.rows.specs.Literals.{within};
-ghost use Rattle.std.specs.List.{range_with_len};
+// Rows that are filled from the front, variable by variable.
+ghost use Rattle.std.specs.Prelude.{◌≡◌};
+ghost use Rattle.puzzles.specs.Filling.{extended, run_row};
 
-use rows::{Literal, Row};
+use rows::{Row, positive};
 
-// One variable more in a row that has room for it.
-pub(crate) fn push_variable(row: &mut Row, variable: u32)
-    requires room { length row.old < longest }
-    requires narrow { variable < within }
-    ensures { row.new ≡ row.old ++ (2 * variable) ∷ [] }
+/// A row with one variable more: at its end the literal that says that the variable is true. None where the row has as many literals
+/// as a row may have, or the variable's number is too large for a literal.
+pub fn with_variable(row: Row, variable: u32) -> Option<Row>
+    ensures { result ≡ extended row variable }
 {
-    // and not `positive`, which would ask again whether the variable is narrow
-    let _ = row.push((2 * variable) as Literal);
+    let mut longer = row;
+    if longer.push(positive(variable)?) {
+        Some(longer)
+    } else {
+        None
+    }
 }
 
-// The row of `count` variables from `start` on, each `step` after the one before.
-pub(crate) fn run(start: u32, step: u32, count: u32) -> Row
-    requires room { count ≤ longest }
-    requires narrow { start + count * step < within }
-    ensures { result ≡ map (λ k. 2 * (start + k * step)) (range_with_len 0 count) }
+/// The row of `count` variables from `start` on, each `step` after the one before. None where they are more than the longest row has
+/// literals, or where one has a number too large for a literal.
+pub fn run(start: u32, step: u32, count: u32) -> Option<Row>
+    ensures { result ≡ run_row start step count }
 {
     let mut row = Row::new();
     for k in 0..count {
-        push_variable(&mut row, start + k * step);
+        let variable = start.checked_add(k.checked_mul(step)?)?;
+        row = with_variable(row, variable)?;
     }
-    row
+    Some(row)
 }

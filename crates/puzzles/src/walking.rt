@@ -8,7 +8,7 @@ use rows::Row;
 use std::marker::Model;
 use std::ops::Range;
 
-// The rows of a puzzle in order, which callers see as the list of those that are left.
+/// The rows of a puzzle in order, which callers see as the list of those that are left.
 #[derive(Drop)]
 pub struct RowsOf<'a, P: Puzzle> {
     puzzle: &'a P,
@@ -36,7 +36,7 @@ impl<'a, P: Puzzle> Iterator for RowsOf<'a, P> {
     }
 }
 
-// All rows of a puzzle.
+/// All rows of a puzzle.
 pub fn rows_of<P: Puzzle>(puzzle: &P) -> RowsOf<'_, P>
     ensures all { result ≡ board_rows (P.Puzzle.board puzzle.now) }
     ensures few { length (board_rows (P.Puzzle.board puzzle.now)) < 2 ^ 32 }

@@ -1,7 +1,10 @@
 // The question: is there another answer than the known ones?
-use crate::drawing::Beside;
+use crate::counting::straight;
+use crate::drawing::{Beside, Draw};
+use crate::stacking::{Level, foot};
 use itertools::Itertools;
-use puzzles::{Puzzle, Queens, bill};
+use puzzles::{Puzzle, bill};
+use queens::Queens;
 use reductions::{Chain, Pairs, Reduced, lower};
 use search::Backtracker;
 use solver::Solver;
@@ -21,23 +24,21 @@ pub(crate) fn ask(rt: &HostRuntime) -> anyhow::Result<()> {
     queens.make(6, &[])?;
     let shown = KNOWN.iter().format(rt.alloc(), " ")?;
     println!(rt; "\nHas the board of size 6 another answer than {shown}?")?;
-    let room = Backtracker::room(queens.vars(), &bill(&queens)) as usize;
-    let mut straight = Backtracker::new(1, vec![in rt.alloc(); 0u16; room]?);
-    ask_of(rt, &queens, &KNOWN, &mut straight)?;
+    let mut solver = straight(rt, &queens)?;
+    ask_of(rt, &queens, &KNOWN, &mut solver)?;
     println!(rt; "And another than all four?")?;
-    ask_of(rt, &queens, &ANSWERS, &mut straight)?;
+    ask_of(rt, &queens, &ANSWERS, &mut solver)?;
     println!(rt; "The same through pairs and chain:")?;
     let (vars, clauses) = lower(&Pairs, queens.vars(), &bill(&queens))?;
-    let (vars, short) = lower(&Chain, vars, &clauses)?;
-    let room = Backtracker::room(vars, &short) as usize;
-    let foot = Backtracker::new(3, vec![in rt.alloc(); 0u16; room]?);
-    let mut stack = Reduced::new(Pairs, Reduced::new(Chain, foot));
+    let (vars, bill) = lower(&Chain, vars, &clauses)?;
+    let short = foot(rt, 3, &Level { vars, bill })?;
+    let mut stack = Reduced::new(Pairs, Reduced::new(Chain, short));
     ask_of(rt, &queens, &KNOWN, &mut stack)?;
     ask_of(rt, &queens, &ANSWERS, &mut stack)
 }
 
 // One question, and what it is told.
-fn ask_of<P: Puzzle, S: Solver>(
+pub(crate) fn ask_of<P: Draw, S: Solver>(
     rt: &HostRuntime,
     puzzle: &P,
     known: &[u8],
@@ -47,7 +48,7 @@ fn ask_of<P: Puzzle, S: Solver>(
     match verdict(puzzle, known, solver, answer.as_mut_slice())? {
         Verdict::Another { draws } => {
             let beside = Beside {
-                size: puzzle.size(),
+                puzzle,
                 left: known,
                 right: answer.as_slice(),
             };

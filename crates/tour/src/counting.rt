@@ -1,5 +1,6 @@
 // How many answers boards have, straight on a backtracker.
-use puzzles::{Puzzle, Queens, bill};
+use puzzles::{Puzzle, bill};
+use queens::Queens;
 use search::Backtracker;
 use verdict::count;
 
@@ -25,10 +26,15 @@ fn room_for<P: Puzzle>(puzzle: &P) -> usize {
     Backtracker::room(puzzle.vars(), &bill(puzzle)) as usize
 }
 
+// A backtracker with just that room.
+pub(crate) fn straight<P: Puzzle>(rt: &HostRuntime, puzzle: &P) -> anyhow::Result<Backtracker> {
+    Ok(Backtracker::new(COVER, vec![in rt.alloc(); 0u16; room_for(puzzle)]?))
+}
+
 fn count_board<P: Puzzle>(rt: &HostRuntime, puzzle: &P) -> anyhow::Result<()> {
     let size = puzzle.size();
     let room = room_for(puzzle);
-    let mut solver = Backtracker::new(COVER, vec![in rt.alloc(); 0u16; room]?);
+    let mut solver = straight(rt, puzzle)?;
     let (answers, _) = count(puzzle, &mut solver, u64::MAX)?;
     println!(rt; "  size {size}: {answers}, in a workspace of {room} numbers")?;
     Ok(())
@@ -36,7 +42,7 @@ fn count_board<P: Puzzle>(rt: &HostRuntime, puzzle: &P) -> anyhow::Result<()> {
 
 fn count_up_to<P: Puzzle>(rt: &HostRuntime, puzzle: &P, limit: u64) -> anyhow::Result<()> {
     let size = puzzle.size();
-    let mut solver = Backtracker::new(COVER, vec![in rt.alloc(); 0u16; room_for(puzzle)]?);
+    let mut solver = straight(rt, puzzle)?;
     let (answers, none_left) = count(puzzle, &mut solver, limit)?;
     let left = if none_left {
         "none is left"

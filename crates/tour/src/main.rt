@@ -1,17 +1,20 @@
 // A first look at the library: a queens board as rows, a right and a wrong filling judged, an answer turned into truth
-// values and back, how many answers the boards have, a board through stacks of reductions, and whether it has another answer.
+// values and back, how many answers the boards have, a board through stacks of reductions, and whether it has another answer;
+// and whether a Latin square and a graph have.
 #![tactic(auto)]
 
 mod asking;
 mod counting;
 mod drawing;
+mod others;
 mod stacking;
 
 use anyhow::anyhow;
 use counting::count_boards;
-use drawing::Grid;
+use drawing::{Draw, Grid};
 use itertools::Itertools;
-use puzzles::{Puzzle, Queens, bill, decode, encode, fill, first_false};
+use puzzles::{Puzzle, bill, decode, encode, fill, first_false};
+use queens::Queens;
 use rows::count_true;
 use stacking::through_stacks;
 
@@ -36,9 +39,12 @@ fn tour(rt: &HostRuntime) -> anyhow::Result<()> {
     count_boards(rt)?;
     through_stacks(rt)?;
     asking::ask(rt)?;
+    others::ask_square(rt)?;
+    others::ask_cycle(rt)?;
     refusals(rt, &mut queens)?;
     counting::refusals(rt)?;
-    asking::refusals(rt)
+    asking::refusals(rt)?;
+    others::refusals(rt)
 }
 
 // What the board comes to as rows; in words of its own, so the like line of the program `boards` is not shared.
@@ -51,13 +57,10 @@ fn introduce<P: Puzzle>(rt: &HostRuntime, puzzle: &P) -> anyhow::Result<()> {
 }
 
 // A filling drawn, whether it is an answer, and the first row that says no.
-fn judge_filling<P: Puzzle>(rt: &HostRuntime, puzzle: &P, filling: &[u8]) -> anyhow::Result<()> {
+fn judge_filling<P: Draw>(rt: &HostRuntime, puzzle: &P, filling: &[u8]) -> anyhow::Result<()> {
     let mut values = vec![in rt.alloc(); false; puzzle.vars() as usize]?;
     fill(puzzle, filling, values.as_mut_slice())?;
-    let grid = Grid {
-        size: puzzle.size(),
-        filling,
-    };
+    let grid = Grid { puzzle, filling };
     let shown = filling.iter().format(rt.alloc(), " ")?;
     println!(rt; "\nThe filling {shown}:{grid}")?;
     if puzzle.is_answer(filling) {

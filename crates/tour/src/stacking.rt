@@ -1,5 +1,6 @@
 // What a board comes to through stacks of reductions, and that each counts the same.
-use puzzles::{Puzzle, Queens, bill};
+use puzzles::{Puzzle, bill};
+use queens::Queens;
 use reductions::{Chain, Narrow, Pairs, Reduced, Translation, Triples, lower};
 use rows::Bill;
 use search::Backtracker;
@@ -8,9 +9,9 @@ use verdict::count;
 
 // The variables and the rows at some depth of a stack.
 #[derive(Clone, Copy)]
-struct Level {
-    vars: u32,
-    bill: Bill,
+pub(crate) struct Level {
+    pub(crate) vars: u32,
+    pub(crate) bill: Bill,
 }
 
 // A board of size 4 through stacks of one reduction, two and three.
@@ -67,7 +68,7 @@ fn below<T: Translation>(
 }
 
 // A backtracker of a kind, with just the room that it needs.
-fn foot(rt: &HostRuntime, kind: u64, level: &Level) -> anyhow::Result<Backtracker> {
+pub(crate) fn foot(rt: &HostRuntime, kind: u64, level: &Level) -> anyhow::Result<Backtracker> {
     let room = Backtracker::room(level.vars, &level.bill) as usize;
     Ok(Backtracker::new(kind, vec![in rt.alloc(); 0u16; room]?))
 }

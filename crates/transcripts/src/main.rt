@@ -1,7 +1,8 @@
-// Plays lists of calls on the backtracker and on stacks of reductions over it, one call a line of standard input, and prints what
+// Plays lists of calls on each final solver and on stacks of reductions over them, one call a line of standard input, and prints what
 // each is answered. `reference/solver.py` prints what must come out, from the same lines.
 #![tactic(auto)]
 
+mod asking;
 mod making;
 mod playing;
 mod reading;

@@ -2,7 +2,9 @@
 use crate::playing::Player;
 use anyhow::anyhow;
 use reductions::{Chain, Narrow, Pairs, Reduced, Triples};
-use search::Backtracker;
+use rows::Fault;
+use search::{Backtracker, Dpll, Sweep};
+use solver::Solver;
 use tables::TruthTable;
 
 // Plays a part: the line that makes its solver, and the calls on it. Lines before the first such line are remarks.
@@ -24,82 +26,102 @@ pub(crate) fn play_on(rt: &HostRuntime, part: &[String]) -> anyhow::Result<()> {
     let kind = kind.parse::<u64>()?;
     let room = room.parse::<usize>()?;
     print!(rt; "{}: ", first.as_str())?;
-    if let Err(fault) = Backtracker::check_kind(kind) {
+    let stack = words.next().unwrap_or("straight");
+    let foot = words.next().unwrap_or("backtracker");
+    play_upon(rt, foot, kind, room, stack, calls)
+}
+
+// Makes the solver that a stack stands upon, after the check of its kind.
+fn play_upon(
+    rt: &HostRuntime,
+    foot: &str,
+    kind: u64,
+    room: usize,
+    stack: &str,
+    calls: &[String],
+) -> anyhow::Result<()> {
+    if foot == "table" {
+        tell_refusal(rt, Backtracker::check_kind(kind))?;
+        let foot = TruthTable::new(kind, vec![in rt.alloc(); true; room]?);
+        return play_stack(rt, stack, foot, calls);
+    }
+    let work = vec![in rt.alloc(); 7u16; room]?;
+    match foot {
+        "dpll" => {
+            tell_refusal(rt, Dpll::check_kind(kind))?;
+            play_stack(rt, stack, Dpll::new(kind, work), calls)
+        }
+        "sweep" => {
+            tell_refusal(rt, Sweep::check_kind(kind))?;
+            play_stack(rt, stack, Sweep::new(kind, work), calls)
+        }
+        "backtracker" => {
+            tell_refusal(rt, Backtracker::check_kind(kind))?;
+            play_more(rt, stack, Backtracker::new(kind, work), calls)
+        }
+        _ => Err(anyhow!("no such solver")),
+    }
+}
+
+fn tell_refusal(rt: &HostRuntime, checked: Result<(), Fault>) -> anyhow::Result<()> {
+    if let Err(fault) = checked {
         print!(rt; "{fault}; ")?;
     }
-    let stack = words.next().unwrap_or("straight");
-    if words.next() == Some("table") {
-        let foot = TruthTable::new(kind, vec![in rt.alloc(); true; room]?);
-        return play_table(rt, stack, foot, calls);
-    }
-    let foot = Backtracker::new(kind, vec![in rt.alloc(); 7u16; room]?);
-    play_stack(rt, stack, foot, calls)
+    Ok(())
 }
 
-// make KIND ROOM STACK table: the same upon a truth table, which has so many cells.
-fn play_table(
+// make KIND ROOM STACK: the reductions of the stack from the top, as pairs/chain, upon a backtracker, or upon the solver that the
+// line says at its end, as `table` with so many cells. One arm for each, since each stack is a type of its own.
+fn play_stack<S: Solver + Drop>(
     rt: &HostRuntime,
     stack: &str,
-    foot: TruthTable,
+    foot: S,
     calls: &[String],
 ) -> anyhow::Result<()> {
-    match stack {
-        "straight" => Player::new(foot).begin(rt, calls),
-        "pairs" => Player::new(Reduced::new(Pairs, foot)).begin(rt, calls),
-        "triples" => Player::new(Reduced::new(Triples, foot)).begin(rt, calls),
-        "pairs/chain" => Player::new(Reduced::new(Pairs, Reduced::new(Chain, foot))).begin(
-            rt, calls,
-        ),
-        _ => Err(anyhow!("no such stack")),
-    }
-}
-
-// make KIND ROOM STACK: the reductions of the stack from the top, as pairs/chain, upon a backtracker. One arm for each, since each
-// stack is a type of its own.
-fn play_stack(
-    rt: &HostRuntime,
-    stack: &str,
-    foot: Backtracker,
-    calls: &[String],
-) -> anyhow::Result<()> {
-    let narrow_short = Narrow::new(3);
-    let narrow_triples = Narrow::new(4);
     match stack {
         "straight" => Player::new(foot).begin(rt, calls),
         "pairs" => Player::new(Reduced::new(Pairs, foot)).begin(rt, calls),
         "chain" => Player::new(Reduced::new(Chain, foot)).begin(rt, calls),
         "triples" => Player::new(Reduced::new(Triples, foot)).begin(rt, calls),
-        "narrow3" => Player::new(Reduced::new(narrow_short, foot)).begin(rt, calls),
-        "narrow4" => Player::new(Reduced::new(narrow_triples, foot)).begin(rt, calls),
-        "pairs/chain" => Player::new(Reduced::new(Pairs, Reduced::new(Chain, foot))).begin(
-            rt, calls,
-        ),
-        "chain/triples" => Player::new(Reduced::new(Chain, Reduced::new(Triples, foot))).begin(
-            rt, calls,
-        ),
-        "pairs/chain/triples" => {
-            Player::new(Reduced::new(
-                Pairs,
-                Reduced::new(Chain, Reduced::new(Triples, foot)),
-            )).begin(rt, calls)
+        "pairs/chain" => {
+            let lower = Reduced::new(Chain, foot);
+            Player::new(Reduced::new(Pairs, lower)).begin(rt, calls)
         }
         "pairs/chain/narrow3" => {
-            Player::new(Reduced::new(
-                Pairs,
-                Reduced::new(Chain, Reduced::new(narrow_short, foot)),
-            )).begin(rt, calls)
-        }
-        "chain/triples/narrow4" => {
-            Player::new(Reduced::new(
-                Chain,
-                Reduced::new(Triples, Reduced::new(narrow_triples, foot)),
-            ))
-            .begin(rt, calls)
-        }
-        "pairs/chain/triples/narrow4" => {
-            let lower = Reduced::new(Triples, Reduced::new(narrow_triples, foot));
-            Player::new(Reduced::new(Pairs, Reduced::new(Chain, lower))).begin(rt, calls)
+            let lower = Reduced::new(Chain, Reduced::new(Narrow::new(3), foot));
+            Player::new(Reduced::new(Pairs, lower)).begin(rt, calls)
         }
         _ => Err(anyhow!("no such stack")),
+    }
+}
+
+// And more of them upon a backtracker.
+fn play_more(
+    rt: &HostRuntime,
+    stack: &str,
+    foot: Backtracker,
+    calls: &[String],
+) -> anyhow::Result<()> {
+    let narrow = Narrow::new(4);
+    match stack {
+        "narrow3" => Player::new(Reduced::new(Narrow::new(3), foot)).begin(rt, calls),
+        "narrow4" => Player::new(Reduced::new(narrow, foot)).begin(rt, calls),
+        "chain/triples" => {
+            let lower = Reduced::new(Triples, foot);
+            Player::new(Reduced::new(Chain, lower)).begin(rt, calls)
+        }
+        "pairs/chain/triples" => {
+            let lower = Reduced::new(Chain, Reduced::new(Triples, foot));
+            Player::new(Reduced::new(Pairs, lower)).begin(rt, calls)
+        }
+        "chain/triples/narrow4" => {
+            let lower = Reduced::new(Triples, Reduced::new(narrow, foot));
+            Player::new(Reduced::new(Chain, lower)).begin(rt, calls)
+        }
+        "pairs/chain/triples/narrow4" => {
+            let lower = Reduced::new(Triples, Reduced::new(narrow, foot));
+            Player::new(Reduced::new(Pairs, Reduced::new(Chain, lower))).begin(rt, calls)
+        }
+        _ => play_stack(rt, stack, foot, calls),
     }
 }

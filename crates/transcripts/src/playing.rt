@@ -1,10 +1,10 @@
 // One line after another on a solver.
-use crate::reading::{is_call, read_bytes, read_call, read_givens, read_numbers};
+use crate::asking::{count_posed, decide_posed};
+use crate::reading::{Question, is_call, read_call, read_question};
 use anyhow::anyhow;
 use history::{Answer, replay};
-use puzzles::Queens;
 use solver::Solver;
-use verdict::{Verdict, count, verdict};
+use verdict::Verdict;
 
 #[derive(Drop)]
 pub(crate) struct Player<S: Solver + Drop> {
@@ -60,7 +60,7 @@ impl<S: Solver + Drop> Player<S> {
         Ok(())
     }
 
-    // A question about a board; a line that begins with a sharp is a remark, and is printed as it is.
+    // A question about a puzzle; a line that begins with a sharp is a remark, and is printed as it is.
     fn step(&mut self, rt: &HostRuntime, line: &str) -> anyhow::Result<()> {
         let Some(word) = line.split_whitespace().next() else {
             return Ok(());
@@ -70,23 +70,17 @@ impl<S: Solver + Drop> Player<S> {
             return Ok(());
         }
         print!(rt; "{line}: ")?;
-        let numbers = read_numbers(rt, line)?;
+        let question = read_question(rt, line)?;
         match word {
-            "count" => self.count(rt, numbers.as_slice()),
-            "verdict" => self.verdict(rt, numbers.as_slice()),
+            "count" => self.count(rt, &question),
+            "verdict" => self.verdict(rt, &question),
             _ => Err(anyhow!("no such call")),
         }
     }
 
-    // count LIMIT SIZE, and then for each given PLACE VALUE: the answers of a queens board.
-    fn count(&mut self, rt: &HostRuntime, numbers: &[u64]) -> anyhow::Result<()> {
-        let [limit, size, givens @ ..] = numbers else {
-            return Err(anyhow!("count wants a limit and a size"));
-        };
-        let givens = read_givens(rt, givens)?;
-        let mut queens = Queens::new();
-        queens.make(usize::try_from(*size)?, givens.as_slice())?;
-        match count(&queens, &mut self.solver, *limit) {
+    // count LIMIT and a puzzle: how many answers it has.
+    fn count(&mut self, rt: &HostRuntime, question: &Question) -> anyhow::Result<()> {
+        match count_posed(question, &mut self.solver) {
             Ok((found, true)) => println!(rt; "{found}, and none is left")?,
             Ok((found, false)) => println!(rt; "{found}")?,
             Err(fault) => println!(rt; "{fault}")?,
@@ -94,22 +88,11 @@ impl<S: Solver + Drop> Player<S> {
         Ok(())
     }
 
-    // verdict ROOM SIZE, and then the bytes of the known answers: whether an empty queens board has another, and what then stands in
-    // a buffer of so many nines.
-    fn verdict(&mut self, rt: &HostRuntime, numbers: &[u64]) -> anyhow::Result<()> {
-        let [room, size, bytes @ ..] = numbers else {
-            return Err(anyhow!("verdict wants the size of a buffer and of a board"));
-        };
-        let mut queens = Queens::new();
-        queens.make(usize::try_from(*size)?, &[])?;
-        let known = read_bytes(rt, bytes)?;
-        let mut buffer = vec![in rt.alloc(); 9u8; usize::try_from(*room)?]?;
-        match verdict(
-            &queens,
-            known.as_slice(),
-            &mut self.solver,
-            buffer.as_mut_slice(),
-        ) {
+    // verdict ROOM and a puzzle with what is known of it: whether it has another answer, and what then stands in a buffer of so
+    // many nines.
+    fn verdict(&mut self, rt: &HostRuntime, question: &Question) -> anyhow::Result<()> {
+        let mut buffer = vec![in rt.alloc(); 9u8; usize::try_from(question.number)?]?;
+        match decide_posed(question, &mut self.solver, buffer.as_mut_slice()) {
             Ok(Verdict::Another { draws }) => print!(rt; "another after {draws} draws")?,
             Ok(Verdict::None { draws }) => print!(rt; "none after {draws} draws")?,
             Err(fault) => print!(rt; "{fault}")?,

@@ -1,5 +1,6 @@
 // Reading lines of a transcript.
 use anyhow::anyhow;
+use cycles::Arc;
 use history::Call;
 use puzzles::Given;
 use rows::{Bill, Literal};
@@ -29,6 +30,23 @@ impl Read {
     }
 }
 
+// A puzzle with its entries.
+#[derive(Drop)]
+pub(crate) enum Posed {
+    Queens(Vec<Given>),
+    Latin(Vec<Given>),
+    Cycles(Vec<Arc>),
+}
+
+// What is asked about a puzzle: number is the limit of a count, or how many bytes the buffer of a verdict has.
+#[derive(Drop)]
+pub(crate) struct Question {
+    pub(crate) number: u64,
+    pub(crate) size: usize,
+    pub(crate) posed: Posed,
+    pub(crate) known: Vec<u8>,
+}
+
 // Whether a line is a call upon the solver alone.
 pub(crate) fn is_call(line: &str) -> bool {
     matches!(
@@ -37,17 +55,17 @@ pub(crate) fn is_call(line: &str) -> bool {
     )
 }
 
-// The numbers that follow the first word of a line.
-pub(crate) fn read_numbers(rt: &HostRuntime, line: &str) -> anyhow::Result<Vec<u64>> {
+// The numbers of a line that follow so many words.
+fn read_numbers(rt: &HostRuntime, line: &str, words: usize) -> anyhow::Result<Vec<u64>> {
     let mut numbers = Vec::new(rt.alloc());
-    for word in line.split_whitespace().skip(1) {
+    for word in line.split_whitespace().skip(words) {
         numbers.push(word.parse::<u64>()?)?;
     }
     Ok(numbers)
 }
 
 pub(crate) fn read_call(rt: &HostRuntime, line: &str) -> anyhow::Result<Read> {
-    let numbers = read_numbers(rt, line)?;
+    let numbers = read_numbers(rt, line, 1)?;
     // one arm for each word: each call has its own numbers to read
     match (line.split_whitespace().next(), numbers.as_slice()) {
         (Some("open"), [vars, pairs @ ..]) => Ok(Read::Open {
@@ -84,7 +102,34 @@ fn read_row(rt: &HostRuntime, numbers: &[u64]) -> anyhow::Result<Vec<Literal>> {
     Ok(row)
 }
 
-pub(crate) fn read_bytes(rt: &HostRuntime, numbers: &[u64]) -> anyhow::Result<Vec<u8>> {
+// What a line asks: its call, a number, the name of a puzzle, its size, and its entries, each two numbers. The known answers come
+// after the word `known`.
+pub(crate) fn read_question(rt: &HostRuntime, line: &str) -> anyhow::Result<Question> {
+    let (posed, known) = line.split_once(" known").unwrap_or((line, ""));
+    let mut words = posed.split_whitespace().skip(1);
+    let (Some(number), Some(name), Some(size)) = (words.next(), words.next(), words.next()) else {
+        return Err(anyhow!("a question wants a number, a puzzle and its size"));
+    };
+    let entries = read_numbers(rt, posed, 4)?;
+    let known = read_numbers(rt, known, 0)?;
+    Ok(Question {
+        number: number.parse::<u64>()?,
+        size: size.parse::<usize>()?,
+        posed: read_posed(rt, name, entries.as_slice())?,
+        known: read_bytes(rt, known.as_slice())?,
+    })
+}
+
+fn read_posed(rt: &HostRuntime, name: &str, entries: &[u64]) -> anyhow::Result<Posed> {
+    match name {
+        "queens" => Ok(Posed::Queens(read_givens(rt, entries)?)),
+        "latin" => Ok(Posed::Latin(read_givens(rt, entries)?)),
+        "cycles" => Ok(Posed::Cycles(read_arcs(rt, entries)?)),
+        _ => Err(anyhow!("no such puzzle")),
+    }
+}
+
+fn read_bytes(rt: &HostRuntime, numbers: &[u64]) -> anyhow::Result<Vec<u8>> {
     let mut bytes = Vec::new(rt.alloc());
     for number in numbers {
         bytes.push(u8::try_from(*number)?)?;
@@ -92,15 +137,29 @@ pub(crate) fn read_bytes(rt: &HostRuntime, numbers: &[u64]) -> anyhow::Result<Ve
     Ok(bytes)
 }
 
-// PLACE VALUE for each given of a board.
-pub(crate) fn read_givens(rt: &HostRuntime, numbers: &[u64]) -> anyhow::Result<Vec<Given>> {
+// PLACE VALUE for each given.
+fn read_givens(rt: &HostRuntime, numbers: &[u64]) -> anyhow::Result<Vec<Given>> {
     let mut givens = Vec::new(rt.alloc());
     for pair in numbers.chunks(2) {
-        if let [place, value] = pair {
-            let place = u8::try_from(*place)?;
-            let value = u8::try_from(*value)?;
-            givens.push(Given { place, value })?;
-        }
+        let (place, value) = read_pair(pair)?;
+        givens.push(Given { place, value })?;
     }
     Ok(givens)
+}
+
+// FROM TO for each arc.
+fn read_arcs(rt: &HostRuntime, numbers: &[u64]) -> anyhow::Result<Vec<Arc>> {
+    let mut arcs = Vec::new(rt.alloc());
+    for pair in numbers.chunks(2) {
+        let (from, to) = read_pair(pair)?;
+        arcs.push(Arc { from, to })?;
+    }
+    Ok(arcs)
+}
+
+fn read_pair(pair: &[u64]) -> anyhow::Result<(u8, u8)> {
+    let [first, second] = pair else {
+        return Err(anyhow!("an entry is two numbers"));
+    };
+    Ok((u8::try_from(*first)?, u8::try_from(*second)?))
 }

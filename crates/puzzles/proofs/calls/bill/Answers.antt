@@ -1,8 +1,8 @@
 use Rattle.std.proofs.Common.{◌≤◌, length, sym, ◌∙◌, arith}
 use Rattle.rows.specs.Kinds.{longest}
 use Rattle.rows.proofs.Tallies.{bill-none}
+use Rattle.puzzles.proofs.Reading.{after-turn, row-of-turn, tally-fits, tally-step}
 use Rattle.puzzles.specs.Boards.{rows}
-use Rattle.puzzles.proofs.Reading.{row-of-turn, after-turn, tally-step, tally-fits}
 use Rattle.puzzles.proofs.calls.bill.Goals as goal
 
 pub loop-row-init : goal.loop-row-init

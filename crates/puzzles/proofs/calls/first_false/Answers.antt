@@ -1,10 +1,10 @@
-use Rattle.std.proofs.Common.{◌≡◌, ℕ, true, map, ◌∙◌, arith}
+use Rattle.std.proofs.Common.{◌≡◌, ℕ, true, false, map, ◌∙◌, arith}
 use Rattle.std.proofs.lemmas.List.{map-append}
 use Rattle.rows.specs.Truth.{valuation, first_false, holds}
 use Rattle.rows.specs.declared.kinds.Kind.TheVariants.{Cover}
+use Rattle.puzzles.proofs.Failing.{false-found, false-turn, judged-board}
+use Rattle.puzzles.proofs.Reading.{after-turn, row-of-turn}
 use Rattle.puzzles.specs.Boards.{rows}
-use Rattle.puzzles.proofs.Failing.{judged-board, false-turn}
-use Rattle.puzzles.proofs.Reading.{row-of-turn, after-turn}
 use Rattle.puzzles.proofs.calls.first_false.Goals as goal
 
 pub returns-in_err-judge-clause-value : goal.returns-in_err-judge-clause-value
@@ -17,6 +17,16 @@ returns-in_err-judge-clause-value g c =
     let f = c.judge.ensures in
     let z : ◌≡◌ {A = ℕ} 0 1 = cc in
     absurd (omega arith)
+
+pub returns-then-not-branch-clause-value : goal.returns-then-not-branch-clause-value
+returns-then-not-branch-clause-value g c =
+    let b = g.P.Puzzle.board c.args.puzzle.now in
+    let n = c.if-values-vars.false ∙ c.vars.ensures in
+    let r = row-of-turn (rows b) (map (λ t. t.1) c.loop-i.yielded) c.loop-i.i-iterator.iter c.next.new.self.iter c.in-Some.row c.loop-i.invariant.whole c.in-Some.ensures.steps.0 in
+    let j = judged-board b (g.met.P.Puzzle.lined c.args.puzzle.now) c.args.values.now n _ c.in-Some.row r.0 r.1 c.literals.ensures.short in
+    let e = c.in_ok-judge.was in
+    let t : holds Cover (valuation c.args.values.now) c.in-Some.row ≡ false = cc in
+    false-found b c.args.values.now c.loop-i.i-iterator.count c.in-Some.i c.in-Some.row c.loop-i.i-iterator.iter c.next.new.self.iter n c.loop-i.invariant.passed c.in-Some.ensures.steps.0 c.in-Some.ensures.steps.1 t
 
 pub loop-i-preserved : goal.loop-i-preserved
 loop-i-preserved g c =

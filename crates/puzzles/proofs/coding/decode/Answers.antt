@@ -1,6 +1,6 @@
 use Rattle.std.proofs.Common.{length, Some, sym, refl, ap, ◌∙◌, arith}
-use Rattle.puzzles.proofs.Law.{lined-are-faithful}
 use Rattle.puzzles.proofs.Codes.{decode-done, decode-wrong}
+use Rattle.puzzles.proofs.Law.{lined-are-faithful}
 use Rattle.puzzles.proofs.coding.decode.Goals as goal
 
 pub returns-then-is_some : goal.returns-then-is_some

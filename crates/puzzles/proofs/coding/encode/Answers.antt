@@ -1,6 +1,6 @@
 use Rattle.std.proofs.Common.{sym, ◌∙◌}
-use Rattle.puzzles.proofs.Law.{lined-are-faithful}
 use Rattle.puzzles.proofs.Codes.{encode-done}
+use Rattle.puzzles.proofs.Law.{lined-are-faithful}
 use Rattle.puzzles.proofs.coding.encode.Goals as goal
 
 pub returns : goal.returns

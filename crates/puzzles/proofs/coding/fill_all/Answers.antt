@@ -1,9 +1,9 @@
 use Rattle.std.proofs.Common.{◌≡◌, ℕ, ◌+◌, ◌*◌, ◌≤◌, Bool, List, [], ◌∷◌, ◌++◌, length, drop, ◌∙◌, arith}
 use Rattle.std.proofs.lemmas.List.{length-append}
+use Rattle.puzzles.proofs.Reading.{after-turn, row-of-turn, whole-at-end}
+use Rattle.puzzles.proofs.SlackSteps.{fill_step, filled, filled-all}
 use Rattle.puzzles.specs.Boards.{rows}
 use Rattle.puzzles.specs.Lines.{board_values}
-use Rattle.puzzles.proofs.Reading.{row-of-turn, after-turn, whole-at-end}
-use Rattle.puzzles.proofs.SlackSteps.{filled, fill_step, filled-all}
 use Rattle.puzzles.proofs.coding.fill_all.Goals as goal
 
 -- what is filled, in the terms of the board

@@ -1,6 +1,6 @@
 use Rattle.std.proofs.Common.{◌≡◌, ◌++◌, length}
-use Rattle.puzzles.specs.Boards.{rows}
 use Rattle.puzzles.proofs.SlackSteps.{filled}
+use Rattle.puzzles.specs.Boards.{rows}
 use Rattle.puzzles.proofs.coding.fill_all.Given as goal
 
 -- the board variables are filled, and the slacks of the rows so far

@@ -1,6 +1,6 @@
 use Rattle.std.proofs.Common.{sym, arith}
-use Rattle.puzzles.specs.Boards.{rows}
 use Rattle.puzzles.proofs.Reading.{next-row}
+use Rattle.puzzles.specs.Boards.{rows}
 use Rattle.puzzles.proofs.walking.RowsOfIterator.next.Goals as goal
 
 pub returns-clause-steps : goal.returns-clause-steps

@@ -1,0 +1,4 @@
+mod Checked
+mod GapLists
+mod LinkTables
+mod Rows

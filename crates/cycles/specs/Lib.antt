@@ -1,0 +1,4 @@
+pub mod Arcs
+pub mod Cycles
+pub mod Made
+pub mod laws

@@ -1,0 +1,3 @@
+-- The proof of the law that the puzzle gives. No contract cites it.
+pub mod Tests
+pub mod CyclesLined

@@ -1,0 +1,3 @@
+pub mod Latin
+pub mod Made
+pub mod laws

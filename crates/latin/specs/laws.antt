@@ -1,0 +1,2 @@
+-- The proof of the law that the puzzle gives. No contract cites it.
+pub mod LatinLined

@@ -1,0 +1,9 @@
+//! Latin squares.
+#![tactic(auto)]
+
+mod making;
+mod playing;
+mod puzzle;
+mod standing;
+
+pub use puzzle::Latin;

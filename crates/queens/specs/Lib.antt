@@ -1,0 +1,3 @@
+pub mod Queens
+pub mod Made
+pub mod laws

@@ -1,4 +1,6 @@
 // The backtracker: a final solver of any kind that draws in order, true before false from variable 0.
+ghost use Rattle.std.specs.Prelude.{◌≡◌};
+
 use crate::drawing::Drawing;
 
 mod making;
@@ -11,4 +13,6 @@ mod solving;
 #[derive(Drop)]
 pub struct Backtracker {
     drawing: Drawing,
+    // so that what it takes is known of any backtracker, however it was made
+    ghost each: { drawing.search.store.each ≡ 1 },
 }

@@ -1,5 +1,7 @@
 // Dpll, of Davis, Logemann and Loveland (1962): a final solver of clauses, by unit propagation and step back, that draws in
 // order, true before false from variable 0.
+ghost use Rattle.std.specs.Prelude.{◌≡◌};
+
 use crate::drawing::Drawing;
 
 mod making;
@@ -13,4 +15,6 @@ mod solving;
 #[derive(Drop)]
 pub struct Dpll {
     drawing: Drawing,
+    // so that what it takes is known of any dpll, however it was made
+    ghost each: { drawing.search.store.each ≡ 2 },
 }

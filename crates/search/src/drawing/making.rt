@@ -18,6 +18,7 @@ impl Drawing {
         ensures kind { (draws result).kind ≡ kind }
         ensures takes { (draws result).stop ≡ open_stop each kind (vec_len work) }
         ensures fresh { Fresh (draws result) }
+        ensures each { result.search.store.each ≡ each }
     {
         Drawing {
             search: Search::new(Store::new(kind, each, work)),

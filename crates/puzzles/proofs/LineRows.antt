@@ -1,6 +1,6 @@
 -- The rows of lines that follow one another.
 use Rattle.std.proofs.Common.{◌≡◌, ℕ, zero, suc, ◌+◌, ◌*◌, ◌<◌, ◌≤◌, Bool, true, cond, ltb, List, [], ◌∷◌, ◌++◌, map, length, Some, refl, arith}
-use Rattle.std.specs.Option.{option_and_then}
+use Rattle.std.specs.Option.{option_and_then, option_map}
 use Rattle.std.specs.List.{range_with_len, list_all, slice_get}
 use Rattle.std.proofs.lemmas.Nat.{mul-add-lt}
 use Rattle.std.proofs.lemmas.Bool.{and_parts, ltb-true}
@@ -33,7 +33,13 @@ pub slacks-givens : (gs : List Given) → slacks (map given_line gs) ≡ 0
 slacks-givens [] = refl
 slacks-givens (g ∷ gs) = let e = slacks-givens gs in omega arith
 
--- the row of a given that is on a board of few variables is that of its one cell
+-- the row of a given is that of its one cell
+pub given-rows : (size s : ℕ) (gs : List Given) (i : ℕ) → slice_get (rows_from size s (map given_line gs)) i ≡ option_map (λ g. 2 * (g.place * size + g.value) ∷ []) (slice_get gs i)
+given-rows size s [] i = refl
+given-rows size s (g ∷ gs) zero = refl
+given-rows size s (g ∷ gs) (suc i) = given-rows size (s + 0) gs i
+
+-- on a board of few variables it is the run of that one variable
 module _ (size places : ℕ) (few : places * size ≤ within) where
   pub nth-givens : (s : ℕ) (gs : List Given) (i : ℕ) → list_all (fits size places) gs ≡ true → slice_get (rows_from size s (map given_line gs)) i ≡ option_and_then (λ g. run_row (g.place * size + g.value) 1 1) (slice_get gs i)
   nth-givens s [] i e = refl

@@ -1,3 +1,3 @@
 mod Checked
 mod Diagonals
-mod Rows
+pub mod Rows

@@ -1,17 +1,18 @@
 -- The rows of queens, one section after the other.
-use Rattle.std.proofs.Common.{◌≡◌, ℕ, ◌+◌, ◌-◌, ◌*◌, ◌<◌, ◌≤◌, true, false, List, ◌++◌, map, length, Some, refl, ap, ◌∙◌, arith}
-use Rattle.std.specs.Option.{option_and_then}
+use Rattle.std.proofs.Common.{◌≡◌, ℕ, ◌+◌, ◌-◌, ◌*◌, ◌<◌, ◌≤◌, true, false, List, [], ◌∷◌, ◌++◌, map, length, get_or, Some, None, refl, ap, ◌∙◌, add-zero, arith}
+use Rattle.std.specs.Option.{option_and_then, option_map}
 use Rattle.std.proofs.lemmas.Nat.{mul-le}
 use Rattle.std.specs.List.{range_with_len, slice_get}
 use Rattle.std.proofs.lemmas.List.FromFn.{length-map-range_with_len}
 use Rattle.std.proofs.lemmas.List.{length-append, length-map}
+use Rattle.std.proofs.lemmas.Option.{slice_get_read, slice_get_past}
 use Rattle.puzzles.specs.Filling.{run_of, run_row}
 use Rattle.puzzles.specs.Givens.{fits, given_line}
 use Rattle.puzzles.specs.Boards.{rows, vars}
 use Rattle.puzzles.specs.Lines.{Line, row_of, rows_from, value_lines}
 use Rattle.puzzles.specs.declared.givens.Given.{Given}
 use Rattle.puzzles.proofs.Made.{makeable-size, makeable-fit}
-use Rattle.puzzles.proofs.LineRows.{length-rows, nth-alike, nth-givens, nth_after, place_line, slacks-alike, slacks-append, slacks-givens, value_line}
+use Rattle.puzzles.proofs.LineRows.{given-rows, length-rows, nth-alike, nth-givens, nth_after, place_line, slacks-alike, slacks-append, slacks-givens, value_line}
 use Rattle.puzzles.proofs.Runs.{place-run, value-run}
 use Rattle.queens.specs.Queens.{falling, largest, queens, queens_lines, queens_makeable, rising, smallest}
 
@@ -63,7 +64,22 @@ module _ (n : ℕ) (gs : List Given) where
   pub queens-rising : (i j w : ℕ) → 2 * n ≤ i → i - 2 * n ≡ w + j → 2 * n - 3 ≡ w → j < w → slice_get (rows (queens n gs)) i ≡ Some (row_of n (n * n + (2 * n - 3) + j) (rising n (j + 1)))
   queens-rising i j w l e f h = past-falling i (w + j) w l e f (omega arith) ∙ nth-alike (rising n) true (λ k. refl) n (n * n + w) 1 (2 * n - 3) _ (w + j - w) (n * n + (2 * n - 3) + j) (j + 1) (omega arith) (omega arith) (omega arith)
 
+  -- past the rising ones
+  past-rising : (i j w : ℕ) → 2 * n ≤ i → i - 2 * n ≡ j → 2 * n - 3 ≡ w → 2 * w ≤ j → slice_get (rows (queens n gs)) i ≡ option_map (λ g. 2 * (g.place * n + g.value) ∷ []) (slice_get gs (j - 2 * w))
+  past-rising i j w l e f h =
+      past-falling i j w l e f (omega arith)
+      ∙ (nth_after (rising n) true (λ k. refl) n (n * n + w) 1 (2 * n - 3) _ (j - w) (n * n + 2 * w) (j - 2 * w) (omega arith) (omega arith)
+      ∙ given-rows n (n * n + 2 * w) gs (j - 2 * w))
+
   -- the givens come last
+  pub queens-given-run : (i j w : ℕ) (g : Given) → 2 * n ≤ i → i - 2 * n ≡ j → 2 * n - 3 ≡ w → 2 * w ≤ j → j - 2 * w < length gs → g ≡ get_or gs (j - 2 * w) g → slice_get (rows (queens n gs)) i ≡ Some (run_of (g.place * n + g.value) 1 1)
+  queens-given-run i j w g l e f h u k = past-rising i j w l e f h ∙ rw (slice_get_read gs (length gs) (j - 2 * w) g refl u k, add-zero)
+
+  -- past the givens there is no row
+  pub queens-past : (i j w : ℕ) → 2 * n ≤ i → i - 2 * n ≡ j → 2 * n - 3 ≡ w → 2 * w ≤ j → length gs ≤ j - 2 * w → slice_get (rows (queens n gs)) i ≡ None
+  queens-past i j w l e f h u = past-rising i j w l e f h ∙ rw (slice_get_past gs (j - 2 * w) u)
+
+  -- both, for givens that are on the board
   pub queens-given : (i j w : ℕ) → queens_makeable n gs ≡ true → 2 * n ≤ i → i - 2 * n ≡ j → 2 * n - 3 ≡ w → 2 * w ≤ j → slice_get (rows (queens n gs)) i ≡ option_and_then (λ g. run_row (g.place * n + g.value) 1 1) (slice_get gs (j - 2 * w))
   queens-given i j w k l e f h =
       let s = (makeable-size smallest largest (fits n n) n gs k).1 in

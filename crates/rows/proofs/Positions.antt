@@ -1,5 +1,5 @@
 -- A loop over the positions of a row that counts the true ones and stops at the first literal that is too wide.
-use Rattle.std.proofs.Common.{◌≡◌, ℕ, ◌+◌, ◌<◌, ◌≤◌, Bool, cond, List, length, get_or, drop, Some, None, Ok, Err, ap, ◌∙◌, arith}
+use Rattle.std.proofs.Common.{◌≡◌, ℕ, ◌+◌, ◌<◌, ◌≤◌, Bool, true, false, cond, List, length, get_or, drop, Some, None, Ok, Err, Option, refl, ap, ◌∙◌, arith}
 use Rattle.std.proofs.lemmas.Bool.Decides.{nat_tests}
 use Rattle.std.proofs.lemmas.List.{at_drop_more, at_drop_all}
 use Rattle.rows.specs.declared.stops.Stop.TheVariants.{Literal}
@@ -12,6 +12,20 @@ pub record Counting (xs : List Bool) (row : List ℕ) (i n : ℕ) : Type 0 where
   pub few : n ≤ i
   pub wide : first_wide (length xs) 0 row ≡ first_wide (length xs) i (drop i row)
   pub count : trues (truths (valuation xs) row) ≡ n + trues (truths (valuation xs) (drop i row))
+
+-- at the first position none are counted
+pub counting-start : (xs : List Bool) (row : List ℕ) → Counting xs row 0 0
+counting-start xs row = record { few = omega arith; wide = refl; count = omega arith }
+
+-- where a value that is kept only if a test passes is there, the test passes and it is that value
+pub known_some : (c x b : Bool) → ◌≡◌ {A = Option Bool} (cond c (Some x) None) (Some b) → (c ≡ true) × (x ≡ b)
+known_some true x b e = (refl, cc)
+known_some false x b e = cc
+
+-- where it is not there, the test fails
+pub known-none : (c x : Bool) → ◌≡◌ {A = Option Bool} (cond c (Some x) None) None → c ≡ false
+known-none true x e = cc
+known-none false x e = refl
 
 pub counting-step : (xs : List Bool) (row : List ℕ) (i n : ℕ) (b : Bool) → i < length row → truth_in xs (get_or row i 0) ≡ Some b → Counting xs row i n → Counting xs row (i + 1) (n + cond b 1 0)
 counting-step xs row i n b h t k =

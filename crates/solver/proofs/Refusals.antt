@@ -1,11 +1,12 @@
 -- What refuses a row and a draw, and what is known where nothing does.
-use Rattle.std.proofs.Common.{◌≡◌, ℕ, zero, suc, ◌+◌, ◌<◌, true, false, eqb, List, [], ◌∷◌, length, get_or, is_some, Some, None, refl, arith}
+use Rattle.std.proofs.Common.{◌≡◌, ℕ, zero, suc, ◌+◌, ◌<◌, ◌≤◌, true, false, eqb, List, [], ◌∷◌, length, get_or, is_some, Some, None, refl, arith}
 use Rattle.std.proofs.lemmas.Bool.Decides.{nat_tests}
 use Rattle.rows.specs.declared.kinds.Kind.{Kind}
+use Rattle.rows.specs.declared.kinds.Kind.TheVariants.{Cover, Clauses, Short, Triples}
 use Rattle.rows.specs.declared.stops.Stop.TheVariants.{Row, Literal, Bill, Owed}
 use Rattle.rows.specs.Bills.{shortest}
 use Rattle.rows.specs.Firsts.{first_failing}
-use Rattle.rows.specs.Kinds.{has_length}
+use Rattle.rows.specs.Kinds.{has_length, longest}
 use Rattle.rows.specs.Stops.{here}
 use Rattle.rows.specs.Truth.{first_wide}
 use Rattle.solver.specs.Stops.{draw_stop, post_stop}
@@ -21,6 +22,13 @@ accepted kind n owed row e = record {
   wide = grind (arith, nat_tests);
   owes = grind (arith, nat_tests);
 }
+
+-- no row is longer than the longest
+pub row-short : (kind : Kind) (k : ℕ) → has_length kind k ≡ true → k ≤ longest
+row-short Cover k e = grind (arith, nat_tests)
+row-short Clauses k e = grind (arith, nat_tests)
+row-short Short k e = grind (arith, nat_tests)
+row-short Triples k e = grind (arith, nat_tests)
 
 -- where a row is owed, there is a shortest length
 owed-from : (i : ℕ) (counts : List ℕ) (k : ℕ) → 0 < get_or counts k 0 → is_some (first_failing (λ c. eqb c 0) i counts) ≡ true

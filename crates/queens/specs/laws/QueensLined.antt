@@ -10,7 +10,7 @@ use Rattle.puzzles.specs.Lines.{Inside, On, all_met, at, hits, met, place_lines,
 use Rattle.puzzles.specs.Words.{each_once, every}
 use Rattle.puzzles.specs.declared.givens.Given.{Given}
 use Rattle.puzzles.proofs.Every.{all_met-append, all_met-elim, all_met-intro, every-elim, every-intro, every-two-elim, same_after, same_tests}
-use Rattle.puzzles.proofs.GivenLines.{given-lines-inside, given-lines-met}
+use Rattle.puzzles.proofs.GivenLines.{fits-places, given-lines-inside, given-lines-stand, given-lines-values}
 use Rattle.puzzles.proofs.Hits.{place_lines-met, value_lines-met}
 use Rattle.puzzles.proofs.Insides.{all-counting, all-joined, all-map-counting, place-on, place_lines-inside, value_lines-inside}
 use Rattle.puzzles.proofs.Made.{makeable-fit}
@@ -105,23 +105,38 @@ lines-met n gs a = simp (all_met-append, place_lines-met)
 regroup : (b f r g : Bool) → (b && ((f && r) && g)) ≡ (b && (f && (r && g)))
 regroup b f r g = grind (arith, nat_tests)
 
--- the answers are the lists of values that meet every line
-answers-meet : (n : ℕ) (gs : List Given) (a : List ℕ) → list_all (fits n n) gs ≡ true → queens_answer n gs a ≡ (eqb (length a) n && all_met a (queens_lines n gs))
-answers-meet n gs a k =
+-- what the lists of values that meet every line are: a given whose place is past the list asks for value 0
+values-meet : (n : ℕ) (gs : List Given) (a : List ℕ) → (eqb (length a) n && (every n (λ i. ltb (get_or a i 0) n) && (each_once n a && (every n (λ j. every j (λ i. not (aligned a i j))) && list_all (λ g. eqb (get_or a g.place 0) g.value) gs)))) ≡ (eqb (length a) n && all_met a (queens_lines n gs))
+values-meet n gs a =
     let rows = every n (λ i. ltb (get_or a i 0) n) in
     let c = all_met a (value_lines n n) in
     let f = all_met a (map (falling n) (range_with_len 2 (2 * n - 3))) in
     let r = all_met a (map (rising n) (range_with_len 1 (2 * n - 3))) in
     let g = all_met a (map given_line gs) in
-    let own = each_once n a && (every n (λ j. every j (λ i. not (aligned a i j))) && all_given gs a) in
+    let own = each_once n a && (every n (λ j. every j (λ i. not (aligned a i j))) && list_all (λ g. eqb (get_or a g.place 0) g.value) gs) in
     same_after (eqb (length a) n) (rows && own) (all_met a (queens_lines n gs)) (λ e.
     same_after rows own (c && (f && (r && g))) (λ h.
     let p = value_lines-met a n n (eqb-true (length a) n e) in
     let q = diagonals-met n a (λ p l. ltb-true (get_or a p 0) n (every-elim n (λ i. ltb (get_or a i 0) n) h p l)) in
-    let s = given-lines-met n n a gs (eqb-true (length a) n e) k in
+    let s = given-lines-values a gs in
     let t = regroup c f r g in
     cc)
     ∙ sym (lines-met n gs a))
+
+-- the test of places before the others
+places-first : (p l r c d g : Bool) → (l && (r && (c && (d && (p && g))))) ≡ (p && (l && (r && (c && (d && g)))))
+places-first p l r c d g = grind (arith, nat_tests)
+
+-- the answers are those lists, where each given's place is on the board
+answers-meet : (n : ℕ) (gs : List Given) (a : List ℕ) → queens_answer n gs a ≡ (list_all (λ g. ltb g.place n) gs && (eqb (length a) n && all_met a (queens_lines n gs)))
+answers-meet n gs a =
+    let len = eqb (length a) n in
+    let places = list_all (λ g. ltb g.place n) gs in
+    let rows = every n (λ i. ltb (get_or a i 0) n) in
+    let diagonals = every n (λ j. every j (λ i. not (aligned a i j))) in
+    let values = list_all (λ g. eqb (get_or a g.place 0) g.value) gs in
+    same_after len (rows && (each_once n a && (diagonals && all_given gs a))) (rows && (each_once n a && (diagonals && (places && values)))) (λ e. ap (λ b. rows && (each_once n a && (diagonals && b))) (given-lines-stand a gs ∙ rw (eqb-true (length a) n e, given-lines-values a gs) refl))
+    ∙ (places-first places len rows (each_once n a) diagonals values ∙ ap (λ b. places && b) (values-meet n gs a))
 
 -- queens as lines
 pub queens-lined : (n : ℕ) (gs : List Given) → queens_makeable n gs ≡ true → Lined (queens n gs)
@@ -131,5 +146,5 @@ queens-lined n gs e =
       rest = value_lines n n ++ (map (falling n) (range_with_len 2 (2 * n - 3)) ++ (map (rising n) (range_with_len 1 (2 * n - 3)) ++ map given_line gs));
       starts = refl;
       inside = lines-inside n gs k;
-      meets = λ a. answers-meet n gs a k;
+      meets = λ a. answers-meet n gs a ∙ rw (fits-places n n gs k) refl;
     }

@@ -2,14 +2,14 @@
 use Rattle.std.proofs.Common.{◌≡◌, ℕ, zero, suc, ◌+◌, ◌*◌, ◌^◌, ◌<◌, ◌≤◌, Bool, true, false, cond, ◌&&◌, ◌||◌, List, [], ◌∷◌, ◌++◌, length, take, replicate, nat_le, None, slice_index, sym, refl, ap, ◌∙◌, ⊎_elim, arith, add-zero, zero-add, zero-mul, mul-le-mul}
 use Rattle.std.proofs.lemmas.Bool.{and_parts, and_from, cases_Bool, cases_lt, eqb-true, le-leb, leb-true, or_cases}
 use Rattle.std.proofs.lemmas.Bool.Decides.{nat_tests}
-use Rattle.std.proofs.lemmas.List.{get_or_past, length-take-le, take_more}
+use Rattle.std.proofs.lemmas.List.{get_or-replicate, get_or_past, length-replicate, length-take-le, take_more}
 use Rattle.std.proofs.lemmas.List.FromFn.{get_or-map-range_with_len, length-map-range_with_len}
 use Rattle.rows.specs.declared.kinds.Kind.{Kind}
 use Rattle.rows.specs.Bills.{counts_within, most_rows}
 use Rattle.rows.specs.Kinds.{has_length, lengths}
 use Rattle.rows.specs.Literals.{within}
 use Rattle.reductions.specs.Bills.{bill_below, charged, cost, helped, occurs, own_stop}
-use Rattle.reductions.specs.Rules.{Exact, Rule, lengths_below}
+use Rattle.reductions.specs.Rules.{Exact, Rule, lengths_below, most_made}
 use Rattle.reductions.specs.laws.Charging.{is-below}
 
 -- what a bill within the limits says of its counts
@@ -54,15 +54,15 @@ helped-more t b k h =
     rw (take_more b k 0 h, helped-push t 0 (take k b) (slice_index b k), e)
 
 -- a count within the limits times what a legal length costs
-few : (c f : ℕ) → c ≤ most_rows → (0 < c → f ≤ 255) → c * f ≤ most_rows * 255
+few : (c f : ℕ) → c ≤ most_rows → (0 < c → f ≤ most_made) → c * f ≤ most_rows * most_made
 few c f a h = ⊎_elim (λ z. mul-le-mul a (h z)) (λ z. let e : c ≡ 0 = omega arith in rw (e, zero-mul) (omega arith)) (cases_lt 0 c)
 
 module _ (t : Rule) (x : Exact t) where
-  rows-few : (k l : ℕ) → has_length t.above k ≡ true → occurs l (lengths_below t k) ≤ 255
+  rows-few : (k l : ℕ) → has_length t.above k ≡ true → occurs l (lengths_below t k) ≤ most_made
   rows-few k l e = let a = x.few_rows k e in let b = occurs-few l (lengths_below t k) in omega arith
 
   module _ (b : List ℕ) (ok : counts_within t.above 0 b ≡ true) where
-    helped-few : (k : ℕ) → k ≤ length b → helped t 0 (take k b) ≤ k * (most_rows * 255)
+    helped-few : (k : ℕ) → k ≤ length b → helped t 0 (take k b) ≤ k * (most_rows * most_made)
     helped-few zero h = omega arith
     helped-few (suc k) h =
         let e = helped-few k (omega arith) in
@@ -70,7 +70,7 @@ module _ (t : Rule) (x : Exact t) where
         let g = few (slice_index b k) (t.helpers k) (limit t.above 0 b ok k) (λ p. x.few_helpers k (legal t.above b ok k p)) in
         omega arith
 
-    charged-few : (l k : ℕ) → k ≤ length b → charged t l 0 (take k b) ≤ k * (most_rows * 255)
+    charged-few : (l k : ℕ) → k ≤ length b → charged t l 0 (take k b) ≤ k * (most_rows * most_made)
     charged-few l zero h = omega arith
     charged-few l (suc k) h =
         let e = charged-few l k (omega arith) in
@@ -93,6 +93,9 @@ pub record Lowering (t : Rule) (b : List ℕ) (i helpers : ℕ) (below : List �
   pub size : length below ≡ lengths
   pub at : (l : ℕ) → l < lengths → slice_index below l ≡ charged t l 0 (take i b)
 
+pub lowering-start : (t : Rule) (b : List ℕ) → Lowering t b 0 0 (replicate lengths 0)
+lowering-start t b = record { sum = refl; size = length-replicate {A = ℕ} lengths 0; at = λ l h. get_or-replicate lengths l 0 0 h }
+
 module _ (t : Rule) (x : Exact t) (b : List ℕ) (ok : counts_within t.above 0 b ≡ true) (i : ℕ) (h : i < length b) (helpers : ℕ) (below : List ℕ) (w : Lowering t b i helpers below) where
   -- a length of which there is no row
   pub lowering-skip : slice_index b i ≡ 0 → Lowering t b (i + 1) helpers below
@@ -109,7 +112,7 @@ module _ (t : Rule) (x : Exact t) (b : List ℕ) (ok : counts_within t.above 0 b
     pub lowering-fits : helpers + slice_index b i * t.helpers i < 2 ^ 31
     lowering-fits = let a = helped-few t x b ok (i + 1) (omega arith) in let e = helped-more t b i h in let f = w.sum in omega arith
 
-    pub lowering-helpers : t.helpers i ≤ 255
+    pub lowering-helpers : t.helpers i ≤ most_made
     lowering-helpers = x.few_helpers i lowering-legal
 
     pub lowering-room : (l : ℕ) → slice_index below l + slice_index b i * slice_index (cost t i) l < 2 ^ 32

@@ -5,7 +5,7 @@ use Rattle.std.proofs.lemmas.Bool.Decides.{nat_tests}
 use Rattle.std.proofs.lemmas.List.{ext_get_or, get_or-set_same, get_or-set_other, length-replicate}
 use Rattle.rows.specs.declared.kinds.Kind.{Kind}
 use Rattle.rows.specs.declared.kinds.Kind.TheVariants.{Cover, Clauses, Short}
-use Rattle.rows.specs.Kinds.{has_length, lengths}
+use Rattle.rows.specs.Kinds.{has_length, lengths, longest}
 use Rattle.reductions.specs.Bills.{cost, occurs}
 use Rattle.reductions.specs.Rules.{Rule, lengths_below}
 use Rattle.reductions.specs.Translations.{chain, narrow, pairs, triples}
@@ -91,7 +91,7 @@ pub pairs-cost : (k n : ℕ) → has_length Cover k ≡ true → n ≡ k * (k - 
 pairs-cost k n e f = cost-is pairs k _ e (length-set (slice_set (replicate lengths 0) k 1) 2 _ ∙ length-zeros k 1) (λ l h. pairs-counts k n l (short Cover k e) f)
 
 pub chain-cost-short : (k : ℕ) → k ≤ 3 → slice_set (replicate lengths 0) k 1 ≡ cost chain k
-chain-cost-short k h = cost-is chain k _ (le-leb k 16 (omega arith)) (length-zeros k 1) (λ l _. chain-short k l h)
+chain-cost-short k h = cost-is chain k _ (le-leb k longest (omega arith)) (length-zeros k 1) (λ l _. chain-short k l h)
 
 pub chain-cost-long : (k a b : ℕ) → has_length Clauses k ≡ true → 3 < k → a ≡ 2 * (k - 3) → b ≡ k - 3 + 1 → slice_set (slice_set (replicate lengths 0) 2 a) 3 b ≡ cost chain k
 chain-cost-long k a b e h f g = cost-is chain k _ e (length-set (slice_set (replicate lengths 0) 2 a) 3 b ∙ length-zeros 2 a) (λ l _. chain-long k a b l h f g)

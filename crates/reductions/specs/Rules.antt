@@ -1,9 +1,9 @@
 -- What a reduction does with one row, and what makes it exact.
-use Rattle.std.specs.Prelude.{◌≡◌, ℕ, ◌+◌, ◌/◌, ◌<◌, ◌≤◌, Bool, true, ◌&&◌, ◌⊎◌, List, [], ◌∷◌, map, length, replicate}
+use Rattle.std.specs.Prelude.{◌≡◌, ℕ, ◌+◌, ◌-◌, ◌*◌, ◌/◌, ◌<◌, ◌≤◌, Bool, true, ◌&&◌, ◌⊎◌, List, [], ◌∷◌, map, length, replicate}
 use Rattle.std.specs.Bool.{beq}
 use Rattle.std.specs.List.{All, Contains}
 use Rattle.rows.specs.declared.kinds.Kind.{Kind}
-use Rattle.rows.specs.Kinds.{has_length}
+use Rattle.rows.specs.Kinds.{has_length, longest}
 use Rattle.rows.specs.Truth.{all_hold, holds, truths}
 
 pub record Rule : Type 0 where
@@ -30,6 +30,10 @@ gives v h (x ∷ xs) = beq (v h) x && gives v (h + 1) xs
 abbrev pub Among : List ℕ → ℕ → ℕ → ℕ → Type 0
 Among row h m i = Contains (map (λ l. l / 2) row) i ⊎ ((h ≤ i) × (i < h + m))
 
+-- no row becomes more rows or gets more helpers: fewer than the square of the most literals that one has
+abbrev pub most_made : ℕ
+most_made = longest * longest - 1
+
 pub record Exact (t : Rule) : Type 0 where
   -- the row's length alone says how long the rows below are and how many helpers there are
   pub lengths : (row : List ℕ) (h : ℕ) → map length (t.rows row h) ≡ lengths_below t (length row)
@@ -41,5 +45,5 @@ pub record Exact (t : Rule) : Type 0 where
   -- they are all true exactly when the row is and the helpers have their values
   pub exact : (v : ℕ → Bool) (row : List ℕ) (h : ℕ) → has_length t.above (length row) ≡ true → all_hold t.below v (t.rows row h) ≡ (holds t.above v row && gives v h (t.values (truths v row)))
   -- a row becomes few rows and gets few helpers, so that counts of them stay small numbers
-  pub few_rows : (k : ℕ) → has_length t.above k ≡ true → length (lengths_below t k) ≤ 255
-  pub few_helpers : (k : ℕ) → has_length t.above k ≡ true → t.helpers k ≤ 255
+  pub few_rows : (k : ℕ) → has_length t.above k ≡ true → length (lengths_below t k) ≤ most_made
+  pub few_helpers : (k : ℕ) → has_length t.above k ≡ true → t.helpers k ≤ most_made

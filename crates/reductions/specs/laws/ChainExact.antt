@@ -5,10 +5,10 @@ use Rattle.std.proofs.lemmas.Bool.{leb-true}
 use Rattle.std.proofs.lemmas.List.{length-replicate}
 use Rattle.std.proofs.lemmas.List.Elements.{All-same}
 use Rattle.rows.specs.declared.kinds.Kind.TheVariants.{Clauses, Short}
-use Rattle.rows.specs.Kinds.{has_length}
+use Rattle.rows.specs.Kinds.{has_length, longest}
 use Rattle.rows.specs.Literals.{truth_of}
 use Rattle.rows.specs.Truth.{all_hold, holds, truths}
-use Rattle.reductions.specs.Rules.{Exact, gives, lengths_below}
+use Rattle.reductions.specs.Rules.{Exact, gives, lengths_below, most_made}
 use Rattle.reductions.specs.Translations.{chain, chain_rows, either, link_values, links}
 use Rattle.reductions.specs.laws.Each.{Each, all-from-each, each-append}
 use Rattle.reductions.specs.laws.Helpers.{laws}
@@ -72,7 +72,7 @@ linked-many : (k : ℕ) → length (linked (suc (suc (suc k)))) ≡ 3 * k + 1
 linked-many zero = refl
 linked-many (suc k) = let e = linked-many k in omega arith
 
-linked-few : (k : ℕ) → k ≤ 16 → length (linked k) ≤ 255
+linked-few : (k : ℕ) → k ≤ longest → length (linked k) ≤ most_made
 linked-few zero h = omega arith
 linked-few (suc zero) h = omega arith
 linked-few (suc (suc zero)) h = omega arith
@@ -85,6 +85,6 @@ chain-is-exact = record {
   fits = λ k _. All-same (λ j. has_length Short j ≡ true) _ (linked k) (chain-lengths k) (all-from-each (λ j. has_length Short j ≡ true) (linked k) (fits k));
   variables = λ row h. among row h (length row - 3) (chain_rows row h) (λ P. over-rows P row h);
   exact = λ v. elim [ [] ↦ λ h _. refl | p ∷ row ↦ λ h _. exact-links v p row h ];
-  few_rows = λ k e. subst (λ ks. length ks ≤ 255) (sym (chain-lengths k)) (linked-few k (leb-true k 16 e));
-  few_helpers = λ k e. let h = leb-true k 16 e in omega arith;
+  few_rows = λ k e. subst (λ ks. length ks ≤ most_made) (sym (chain-lengths k)) (linked-few k (leb-true k longest e));
+  few_helpers = λ k e. let h = leb-true k longest e in omega arith;
 }

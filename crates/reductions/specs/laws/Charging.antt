@@ -8,7 +8,7 @@ use Rattle.std.proofs.lemmas.Bool.Decides.{nat_tests}
 use Rattle.rows.specs.declared.kinds.Kind.{Kind}
 use Rattle.rows.specs.declared.kinds.Kind.TheVariants.{Cover, Clauses, Short, Triples}
 use Rattle.rows.specs.Firsts.{first_failing}
-use Rattle.rows.specs.Kinds.{has_length, lengths}
+use Rattle.rows.specs.Kinds.{has_length, lengths, longest}
 use Rattle.reductions.specs.Bills.{bill_below, charged, helped, less, occurs}
 use Rattle.reductions.specs.Rules.{Exact, Rule, lengths_below}
 use Rattle.reductions.specs.laws.Each.{Each, each-from-all}
@@ -80,8 +80,8 @@ occurs-append l [] ls = omega arith
 occurs-append l (k ∷ ks) ls = let e = occurs-append l ks ls in omega arith
 
 pub short : (q : Kind) (k : ℕ) → has_length q k ≡ true → k < lengths
-short Cover k e = let h = leb-true k 16 e in omega arith
-short Clauses k e = let h = leb-true k 16 e in omega arith
+short Cover k e = let h = leb-true k longest e in omega arith
+short Clauses k e = let h = leb-true k longest e in omega arith
 short Short k e = let h = leb-true k 3 e in omega arith
 short Triples k e = let h = eqb-true k 3 e in omega arith
 

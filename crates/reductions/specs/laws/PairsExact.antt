@@ -5,10 +5,10 @@ use Rattle.std.proofs.lemmas.Bool.{leb-true}
 use Rattle.std.proofs.lemmas.List.{length-replicate}
 use Rattle.std.proofs.lemmas.List.Elements.{All-same}
 use Rattle.rows.specs.declared.kinds.Kind.TheVariants.{Clauses}
-use Rattle.rows.specs.Kinds.{has_length}
+use Rattle.rows.specs.Kinds.{has_length, longest}
 use Rattle.rows.specs.Literals.{truth_of}
 use Rattle.rows.specs.Truth.{all_hold, trues, truths}
-use Rattle.reductions.specs.Rules.{Exact, lengths_below}
+use Rattle.reductions.specs.Rules.{Exact, lengths_below, most_made}
 use Rattle.reductions.specs.Translations.{not_both, not_with, pairs}
 use Rattle.reductions.specs.laws.Each.{Each, all-from-each, each-append}
 use Rattle.reductions.specs.laws.Helpers.{laws}
@@ -68,10 +68,10 @@ pub twos-many : (k : ℕ) → length (twos k) ≡ k * (k - 1) / 2
 twos-many zero = refl
 twos-many (suc k) = let e = double-twos k in let f : suc k - 1 ≡ k = omega arith in rw (f, ← e) (omega arith)
 
-few-twos : (k : ℕ) → k ≤ 16 → length (twos k) ≤ 120
+few-twos : (k : ℕ) → k ≤ longest → length (twos k) ≤ longest * (longest - 1) / 2
 few-twos zero h = omega arith
 few-twos (suc k) h =
-    let b : k ≤ 15 = omega arith in
+    let b : k ≤ longest - 1 = omega arith in
     let c = mul-le-mul h b in
     omega (arith, double-twos k)
 
@@ -82,6 +82,6 @@ pairs-is-exact = record {
   fits = λ k e. All-same (λ j. has_length Clauses j ≡ true) _ (k ∷ twos k) (pairs-lengths k) (all-from-each (λ j. has_length Clauses j ≡ true) (k ∷ twos k) (e, fits k));
   variables = λ row h. among row h 0 (row ∷ not_both row) (λ P x f. (x, over-both P row x));
   exact = λ v row h _. let e = exact-both v row in grind laws;
-  few_rows = λ k e. let f = few-twos k (leb-true k 16 e) in subst (λ ks. length ks ≤ 255) (sym (pairs-lengths k)) (omega arith);
+  few_rows = λ k e. let f = few-twos k (leb-true k longest e) in subst (λ ks. length ks ≤ most_made) (sym (pairs-lengths k)) (omega arith);
   few_helpers = λ k e. omega arith;
 }

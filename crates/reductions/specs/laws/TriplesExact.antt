@@ -8,7 +8,7 @@ use Rattle.rows.specs.declared.kinds.Kind.TheVariants.{Short, Triples}
 use Rattle.rows.specs.Kinds.{has_length}
 use Rattle.rows.specs.Truth.{all_hold, holds, truths}
 use Rattle.rows.proofs.Opposites.{truth-opposite}
-use Rattle.reductions.specs.Rules.{Exact, gives, lengths_below}
+use Rattle.reductions.specs.Rules.{Exact, gives, lengths_below, most_made}
 use Rattle.reductions.specs.Translations.{triples, triples_helpers, triples_rows, triples_values}
 use Rattle.reductions.specs.laws.Each.{Each, all-from-each}
 use Rattle.reductions.specs.laws.Helpers.{truth-helper, laws}
@@ -81,6 +81,6 @@ triples-is-exact = record {
   fits = λ k _. All-same (λ j. has_length Triples j ≡ true) _ (tripled k) (triples-lengths k) (all-from-each (λ j. has_length Triples j ≡ true) (tripled k) (fits k));
   variables = λ row h. among row h (triples_helpers (length row)) (triples_rows row h) (λ P. over-rows P row h);
   exact = exact-rows;
-  few_rows = λ k e. subst (λ ks. length ks ≤ 255) (sym (triples-lengths k)) (few-lengths (λ k. length (tripled k) ≤ 255) (omega arith) (omega arith) (omega arith) (omega arith) k e);
-  few_helpers = few-lengths (λ k. triples_helpers k ≤ 255) (omega arith) (omega arith) (omega arith) (omega arith);
+  few_rows = λ k e. subst (λ ks. length ks ≤ most_made) (sym (triples-lengths k)) (few-lengths (λ k. length (tripled k) ≤ most_made) (omega arith) (omega arith) (omega arith) (omega arith) k e);
+  few_helpers = few-lengths (λ k. triples_helpers k ≤ most_made) (omega arith) (omega arith) (omega arith) (omega arith);
 }

@@ -2,6 +2,7 @@
 use Rattle.std.proofs.Common.{◌≡◌, ℕ, ◌+◌, ◌-◌, ◌*◌, ◌<◌, ◌≤◌, Bool, true, false, cond, ◌&&◌, ltb, List, [], ◌∷◌, ◌++◌, map, length, Some, None, Option, sym, refl, ap, ◌∙◌, ⊎_elim, append-nil, arith}
 use mathlib.Core.List.{map-map}
 use Rattle.std.specs.List.{range_with_len}
+use Rattle.std.specs.Option.{option_and_then}
 use Rattle.std.proofs.lemmas.List.FromFn.{length-map-range_with_len, get_or-map-range_with_len, map-range_with_len_more, fill_by_all}
 use Rattle.std.proofs.lemmas.Nat.{mul-le}
 use Rattle.std.proofs.lemmas.Bool.{cases_Bool}
@@ -12,7 +13,7 @@ use Rattle.puzzles.specs.Filling.{extended, run_of, run_fits, run_row}
 use Rattle.puzzles.specs.Lines.{Cell, at, plain, row_of, variable_of}
 
 -- how many literals a run has
-length_run : (start step count : ℕ) → length (run_of start step count) ≡ count
+pub length_run : (start step count : ℕ) → length (run_of start step count) ≡ count
 length_run start step count = length-map-range_with_len (λ k. 2 * (start + k * step)) 0 count
 
 -- more than the variables of any board
@@ -52,6 +53,19 @@ run-extended start step count v o r row e f g h l =
     let n : length row ≡ count = ap length s ∙ length_run start step count in
     extended-made row v r g (omega arith) l ∙ ap (λ (xs : List ℕ). Some (xs ++ (2 * v) ∷ [])) s
 
+-- where a run makes a row that has room, and the variable is within the limit, it makes one with that variable more
+pub run-and-made : (start step count v : ℕ) → run_fits start step count ≡ true → count < longest → v < within → option_and_then (λ row. extended row v) (run_row start step count) ≡ Some (run_of start step count ++ (2 * v) ∷ [])
+run-and-made start step count v f c h =
+    let o = run_row start step count in
+    let made : o ≡ Some (run_of start step count) = rw f refl in
+    run-extended start step count v o (option_and_then (λ row. extended row v) o) (run_of start step count) refl made (rw made refl) c h
+
+-- so can a run among so few variables, by its slack
+pub run-and : (start step count v : ℕ) (r : Option (List ℕ)) → r ≡ option_and_then (λ row. extended row v) (run_row start step count) → count < longest → start < many → step < many → v < within → r ≡ Some (run_of start step count ++ (2 * v) ∷ [])
+run-and start step count v r e c h k l =
+    let made = run-made start step count (run_row start step count) refl (omega arith) h k in
+    run-extended start step count v (run_row start step count) r (run_of start step count) refl made (e ∙ rw made refl) c l
+
 -- a longer run does not fit either
 longer-unfit : (start step k count : ℕ) → k < count → run_fits start step (k + 1) ≡ false → run_fits start step count ≡ false
 longer-unfit start step k count h e = let m = mul-le k step (count - 1) step (omega arith) (omega arith) in grind (arith, nat_tests)
@@ -75,6 +89,14 @@ module _ (start step k : ℕ) (row : List ℕ) (made : run_row start step k ≡ 
       (λ (t : run_fits start step (k + 1) ≡ true). let z : None ≡ Some (run_of start step (k + 1)) = sym n ∙ (run-next v e ∙ rw t refl) in cc)
       (λ (f : run_fits start step (k + 1) ≡ false). rw (longer-unfit start step k count h f) refl)
       (cases_Bool (run_fits start step (k + 1)))
+
+-- a run that makes a row has room for each of its variables, which are within the limit
+pub run-room : (start step count k : ℕ) → run_fits start step count ≡ true → k < count → (k < longest) × (start + k * step < within)
+run-room start step count k f h = let m = mul-le k step (count - 1) step (omega arith) (omega arith) in (grind (arith, nat_tests), grind (arith, nat_tests))
+
+-- a run and its next variable are the next run
+pub run-longer : (start step k : ℕ) → run_of start step k ++ (2 * (start + k * step)) ∷ [] ≡ run_of start step (k + 1)
+run-longer start step k = sym (map-range_with_len_more (λ k. 2 * (start + k * step)) 0 k k (omega arith))
 
 -- literals made from numbers that go up by one
 run-from : (f : ℕ → ℕ) (start step i m : ℕ) → ((k : ℕ) → k < m → f (i + k) ≡ 2 * (start + k * step)) → map f (range_with_len i m) ≡ run_of start step m

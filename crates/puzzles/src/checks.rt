@@ -13,7 +13,11 @@ pub fn all_below(size: usize, answer: &[u8]) -> bool
 fn count_value(value: usize, answer: &[u8]) -> usize
     ensures { result ≡ count_by (λ x. x == value) answer.now }
 {
-    answer.iter().filter(|x| **x as usize == value).count()
+    // a sum and no filter, whose branch makes a question about an answer take half as long again
+    answer
+        .iter()
+        .map(|x| usize::from(*x as usize == value))
+        .sum()
 }
 
 /// Whether each value below the size stands once in a list.

@@ -9,7 +9,7 @@ use crate::puzzle::Queens;
 use crate::standing::all_apart;
 use puzzles::Puzzle;
 use puzzles::checks::{all_below, each_once};
-use puzzles::filling::{run, with_variable};
+use puzzles::filling::{run, run_and};
 use puzzles::givens::{all_given, given_row};
 use rows::Row;
 
@@ -40,7 +40,7 @@ impl Side {
         } else {
             ((n - d) * n, d)
         };
-        with_variable(run(start, n + 1, count)?, n * n + i)
+        run_and(start, n + 1, count, n * n + i)
     }
 
     // The row of rising diagonal i, on which row + column is i + 1, with its slack.
@@ -55,7 +55,7 @@ impl Side {
         } else {
             ((d - n + 1) * n + n - 1, 2 * n - 1 - d)
         };
-        with_variable(run(start, n - 1, count)?, n * n + self.diagonals() + i)
+        run_and(start, n - 1, count, n * n + self.diagonals() + i)
     }
 }
 

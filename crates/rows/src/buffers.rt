@@ -47,11 +47,13 @@ impl Row {
         ensures after { self.new ≡ (if result then self.old ++ literal ∷ [] else self.old) }
         ensures short { length self.new ≤ longest }
     {
-        if self.len >= LONGEST {
+        // by a copy of the length: read again behind the write, it makes filling a row take half as long again
+        let at = self.len;
+        if at >= LONGEST {
             return false;
         }
-        self.literals[self.len] = literal;
-        self.len += 1;
+        self.literals[at] = literal;
+        self.len = at + 1;
         true
     }
 

@@ -1,7 +1,8 @@
 use Rattle.std.proofs.Common.{ℕ, ◌+◌, ◌-◌, ◌*◌, Some, sym, ap, ◌∙◌, arith}
 use Rattle.std.proofs.lemmas.Nat.{mul-le}
-use Rattle.puzzles.specs.Filling.{run_row}
-use Rattle.puzzles.proofs.Runs.{run-extended}
+use Rattle.std.specs.Option.{option_and_then}
+use Rattle.puzzles.specs.Filling.{extended, run_row}
+use Rattle.puzzles.proofs.Runs.{run-and}
 use Rattle.queens.specs.Queens.{largest}
 use Rattle.queens.proofs.Diagonals.{falling-high, falling-low}
 use Rattle.queens.proofs.playing.Side.falling_row.Goals as goal
@@ -14,11 +15,14 @@ returns c =
     let s = n * n + c.args.i in
     let h = c.args.self.small in
     let m = mul-le n n largest largest h h in
+    let made = λ (start count : ℕ). option_and_then (λ row. extended row s) (run_row start (n + 1) count) in
+    let e = c.run_and.ensures in
     elim c.if-d-n.branch [
       | then-d-n w ↦
-          run-extended (d - n) (n + 1) (2 * n - d) s c.run.result c.with_variable.result c.in_ok-run.field-0 (c.run.ensures ∙ ap (λ (p : ℕ × ℕ). run_row p.0 (n + 1) p.1) w.start-is) c.in_ok-run.was c.with_variable.ensures (omega arith) (omega arith)
+          run-and (d - n) (n + 1) (2 * n - d) s c.run_and.result (e ∙ ap (λ (p : ℕ × ℕ). made p.0 p.1) w.start-is) (omega arith) (omega arith) (omega arith) (omega arith)
           ∙ ap Some (sym (falling-high n d s (omega arith) (omega arith)))
       | else-d-n w ↦
-          run-extended ((n - d) * n) (n + 1) d s c.run.result c.with_variable.result c.in_ok-run.field-0 (c.run.ensures ∙ ap (λ (p : ℕ × ℕ). run_row p.0 (n + 1) p.1) w.start-is) c.in_ok-run.was c.with_variable.ensures (omega arith) (omega arith)
+          let k = mul-le (n - d) n largest largest (omega arith) h in
+          run-and ((n - d) * n) (n + 1) d s c.run_and.result (e ∙ ap (λ (p : ℕ × ℕ). made p.0 p.1) w.start-is) (omega arith) (omega arith) (omega arith) (omega arith)
           ∙ ap Some (sym (falling-low n d s (omega arith)))
     ]

@@ -4,5 +4,5 @@ use Rattle.rows.proofs.buffers.Row.push.Goals as goal
 
 pub returns-clause-after : goal.returns-clause-after
 returns-clause-after c =
-    take_more_set c.self.inside.literals c.self.inside.len c.args.literal (omega (arith, c.self.invariant.room, c.if-self-ge-LONGEST.false))
+    take_more_set c.self.inside.literals c.self.inside.len c.args.literal (omega (arith, c.self.invariant.room, c.if-at-ge-LONGEST.false))
     ∙ ap (λ (xs : List ℕ). xs ++ c.args.literal ∷ []) c.self.view_is

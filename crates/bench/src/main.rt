@@ -1,6 +1,6 @@
 // Counts queens boards and says how much work that was. The first argument says how, `straight` on the backtracker, through
 // `pairs` on the backtracker and on dpll, or through a `stack` of pairs, chain and triples, or `asking` for another answer until
-// there is none; or `latin` to count Latin squares, straight too. Each further one is a size.
+// there is none; or `latin` to count Latin squares, straight too. Each further one is a size; sizes alone are counted straight.
 #![tactic(auto)]
 
 use anyhow::anyhow;
@@ -18,27 +18,55 @@ fn main(rt: HostRuntime) -> anyhow::Result<()> {
     run(&rt)
 }
 
+// What is counted, and by which solvers.
+#[derive(Clone, Copy)]
+enum How {
+    Straight,
+    Latin,
+    Pairs,
+    Stack,
+    Asking,
+}
+
+fn named(word: &str) -> Option<How> {
+    match word {
+        "straight" => Some(How::Straight),
+        "latin" => Some(How::Latin),
+        "pairs" => Some(How::Pairs),
+        "stack" => Some(How::Stack),
+        "asking" => Some(How::Asking),
+        _ => None,
+    }
+}
+
 fn run(rt: &HostRuntime) -> anyhow::Result<()> {
-    let mut words = env::args(rt)?.skip(1);
-    let Some(how) = words.next() else {
-        return Ok(());
-    };
-    for word in words {
-        let size = word.parse::<usize>()?;
-        match how.as_str() {
-            "straight" => measure_queens(rt, size)?,
-            "latin" => measure_latin(rt, size)?,
-            "pairs" => measure_pairs(rt, size)?,
-            "stack" => measure_stack(rt, size)?,
-            "asking" => measure_asking(rt, size)?,
-            _ => {
-                return Err(anyhow!(
-                    "the first argument is `straight`, `pairs`, `stack`, `asking` or `latin`"
-                ));
-            }
+    let mut how = How::Straight;
+    for (i, word) in env::args(rt)?.skip(1).enumerate() {
+        match named(word.as_str()) {
+            Some(said) if i == 0 => how = said,
+            _ => measure(rt, how, read_size(word.as_str())?)?,
         }
     }
     Ok(())
+}
+
+fn read_size(word: &str) -> anyhow::Result<usize> {
+    let Ok(size) = word.parse::<usize>() else {
+        return Err(anyhow!(
+            "an argument is a size; the first may be `straight`, `pairs`, `stack`, `asking` or `latin`"
+        ));
+    };
+    Ok(size)
+}
+
+fn measure(rt: &HostRuntime, how: How, size: usize) -> anyhow::Result<()> {
+    match how {
+        How::Straight => measure_queens(rt, size),
+        How::Latin => measure_latin(rt, size),
+        How::Pairs => measure_pairs(rt, size),
+        How::Stack => measure_stack(rt, size),
+        How::Asking => measure_asking(rt, size),
+    }
 }
 
 fn measure_queens(rt: &HostRuntime, size: usize) -> anyhow::Result<()> {

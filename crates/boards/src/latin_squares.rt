@@ -1,5 +1,5 @@
 // Latin squares: the small ones whole, larger ones counted, with givens that agree and givens that clash.
-use crate::showing::{MANY, show_another, show_counted, show_whole};
+use crate::showing::{MANY, Title, show_another, show_counted, show_whole};
 use latin::Latin;
 use puzzles::Given;
 use reductions::{Pairs, Reduced};
@@ -72,13 +72,13 @@ pub(crate) fn try_squares(rt: &HostRuntime) -> anyhow::Result<()> {
 fn try_square(rt: &HostRuntime, size: usize, givens: &[Given]) -> anyhow::Result<()> {
     let mut latin = Latin::new();
     latin.make(size, givens)?;
-    show_whole(rt, "latin", givens.len(), &latin)
+    show_whole(rt, titled(givens.len()), &latin)
 }
 
 fn count_square(rt: &HostRuntime, size: usize, givens: &[Given], limit: u64) -> anyhow::Result<()> {
     let mut latin = Latin::new();
     latin.make(size, givens)?;
-    show_counted(rt, "latin", givens.len(), &latin, limit)
+    show_counted(rt, titled(givens.len()), &latin, limit)
 }
 
 // One of the two squares of size 2 is known, and the other is found through pairs over dpll.
@@ -90,4 +90,12 @@ fn ask_for_another(rt: &HostRuntime) -> anyhow::Result<()> {
     let mut solver = Reduced::new(Pairs, foot);
     println!(rt; "latin 2 through pairs over dpll, with 0 1 1 0 known:")?;
     show_another(rt, &latin, &[0, 1, 1, 0], &mut solver)
+}
+
+fn titled(entries: usize) -> Title {
+    Title {
+        name: "latin",
+        entries,
+        called: "entries",
+    }
 }

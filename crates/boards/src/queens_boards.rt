@@ -1,5 +1,5 @@
 // Queens: the small boards whole, the larger ones counted, and boards with givens.
-use crate::showing::{MANY, show_counted, show_whole};
+use crate::showing::{MANY, Title, show_counted, show_whole};
 use puzzles::Given;
 use queens::Queens;
 
@@ -18,8 +18,10 @@ pub(crate) fn try_boards(rt: &HostRuntime) -> anyhow::Result<()> {
     for size in 7..11usize {
         count_board(rt, size, MANY)?;
     }
-    // the largest has more than are counted
-    count_board(rt, 12, 100)?;
+    // the two largest have more than are counted
+    for size in 11..13usize {
+        count_board(rt, size, 100)?;
+    }
     try_board(rt, 6, &TWICE_AND_AGAIN)?;
     try_board(rt, 5, &CLASHING)
 }
@@ -27,11 +29,19 @@ pub(crate) fn try_boards(rt: &HostRuntime) -> anyhow::Result<()> {
 fn try_board(rt: &HostRuntime, size: usize, givens: &[Given]) -> anyhow::Result<()> {
     let mut queens = Queens::new();
     queens.make(size, givens)?;
-    show_whole(rt, "queens", givens.len(), &queens)
+    show_whole(rt, titled(givens.len()), &queens)
 }
 
 fn count_board(rt: &HostRuntime, size: usize, limit: u64) -> anyhow::Result<()> {
     let mut queens = Queens::new();
     queens.make(size, &[])?;
-    show_counted(rt, "queens", 0, &queens, limit)
+    show_counted(rt, titled(0), &queens, limit)
+}
+
+fn titled(entries: usize) -> Title {
+    Title {
+        name: "queens",
+        entries,
+        called: "givens",
+    }
 }

@@ -1,6 +1,6 @@
 // Rings through all vertices, which are Hamiltonian cycles: in the small graphs whole, in larger ones counted.
 use crate::graphs::{CUBE, PETERSEN, RING, RING_AND_MORE, TRIANGLES, both_ways, complete, within};
-use crate::showing::{MANY, show_counted, show_whole};
+use crate::showing::{MANY, Title, show_counted, show_whole};
 use cycles::{Arc, Cycles};
 
 pub(crate) fn try_graphs(rt: &HostRuntime) -> anyhow::Result<()> {
@@ -30,11 +30,19 @@ pub(crate) fn try_graphs(rt: &HostRuntime) -> anyhow::Result<()> {
 fn try_graph(rt: &HostRuntime, vertices: usize, arcs: &[Arc]) -> anyhow::Result<()> {
     let mut cycles = Cycles::new();
     cycles.make(vertices, arcs)?;
-    show_whole(rt, "cycles", arcs.len(), &cycles)
+    show_whole(rt, titled(arcs.len()), &cycles)
 }
 
 fn count_graph(rt: &HostRuntime, vertices: usize, arcs: &[Arc]) -> anyhow::Result<()> {
     let mut cycles = Cycles::new();
     cycles.make(vertices, arcs)?;
-    show_counted(rt, "cycles", arcs.len(), &cycles, MANY)
+    show_counted(rt, titled(arcs.len()), &cycles, MANY)
+}
+
+fn titled(entries: usize) -> Title {
+    Title {
+        name: "cycles",
+        entries,
+        called: "entries",
+    }
 }

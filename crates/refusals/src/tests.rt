@@ -1,7 +1,9 @@
-// What no transcript shows: refusals that leave a puzzle as it was, room to the number, and a solver that was in use before.
+// What no transcript shows: refusals that leave a puzzle, truth values or an answer as they were, room to the number, a solver that was
+// in use before, and calls that follow one another.
 use rows::{Bill, Fault, Stop};
 use std::process::Abort;
 
+mod boards;
 mod making;
 mod questions;
 mod solvers;

@@ -8,21 +8,23 @@ mod playing;
 mod reading;
 
 use making::play_on;
+use playing::Player;
+use search::Backtracker;
 
 fn main(rt: HostRuntime) -> anyhow::Result<()> {
     play(&rt)
 }
 
-// Each line that makes a solver begins a new part, which is played as a whole: its solver has a type of its own.
+// Each line is answered before the next is read. One that makes a solver begins a new part, since its solver has a type of its own.
 fn play(rt: &HostRuntime) -> anyhow::Result<()> {
-    let mut part = Vec::new(rt.alloc());
-    for line in rt.lines(rt.alloc()) {
-        let line = line?;
-        if line.as_str().starts_with("make ") {
-            play_on(rt, part.as_slice())?;
-            part.clear();
-        }
-        part.push(line)?;
+    let mut lines = rt.lines(rt.alloc());
+    let idle = Backtracker::new(1, Vec::new(rt.alloc()));
+    let mut making = Player::new(idle).play(rt, &mut lines)?;
+    for _ in 0..u64::MAX {
+        let Some(line) = making else {
+            return Ok(());
+        };
+        making = play_on(rt, line.as_str(), &mut lines)?;
     }
-    play_on(rt, part.as_slice())
+    Ok(())
 }

@@ -1,5 +1,6 @@
 // Making the solver that a part of a transcript is played on.
 use crate::playing::Player;
+use crate::reading::Input;
 use anyhow::anyhow;
 use reductions::{Chain, Narrow, Pairs, Reduced, Triples};
 use rows::Fault;
@@ -7,28 +8,26 @@ use search::{Backtracker, Dpll, Sweep};
 use solver::Solver;
 use tables::TruthTable;
 
-// Plays a part: the line that makes its solver, and the calls on it. Lines before the first such line are remarks.
-pub(crate) fn play_on(rt: &HostRuntime, part: &[String]) -> anyhow::Result<()> {
-    let Some((first, calls)) = part.split_first() else {
-        return Ok(());
-    };
-    let mut words = first.as_str().split_whitespace();
-    if words.next() != Some("make") {
-        let idle = Backtracker::new(1, Vec::new(rt.alloc()));
-        return Player::new(idle).play(rt, part);
+// make KIND ROOM, a stack and the solver that it stands upon: plays the lines that follow on what is so made, as far as the next line
+// that makes a solver, which it gives back.
+pub(crate) fn play_on(
+    rt: &HostRuntime,
+    line: &str,
+    lines: &mut Input,
+) -> anyhow::Result<Option<String>> {
+    let mut numbers = Vec::new(rt.alloc());
+    for word in line.split_whitespace().skip(1).take(2) {
+        numbers.push(word.parse::<u64>()?)?;
     }
-    let Some(kind) = words.next() else {
-        return Err(anyhow!("make wants a kind"));
+    print!(rt; "{line}: ")?;
+    let [kind, room] = numbers.as_slice() else {
+        return Err(anyhow!("make wants a kind and a size of the workspace"));
     };
-    let Some(room) = words.next() else {
-        return Err(anyhow!("make wants the size of a workspace"));
-    };
-    let kind = kind.parse::<u64>()?;
-    let room = room.parse::<usize>()?;
-    print!(rt; "{}: ", first.as_str())?;
+    let room = usize::try_from(*room)?;
+    let mut words = line.split_whitespace().skip(3);
     let stack = words.next().unwrap_or("straight");
     let foot = words.next().unwrap_or("backtracker");
-    play_upon(rt, foot, kind, room, stack, calls)
+    play_upon(rt, foot, *kind, room, stack, lines)
 }
 
 // Makes the solver that a stack stands upon, after the check of its kind.
@@ -38,29 +37,37 @@ fn play_upon(
     kind: u64,
     room: usize,
     stack: &str,
-    calls: &[String],
-) -> anyhow::Result<()> {
-    if foot == "table" {
-        tell_refusal(rt, Backtracker::check_kind(kind))?;
-        let foot = TruthTable::new(kind, vec![in rt.alloc(); true; room]?);
-        return play_stack(rt, stack, foot, calls);
-    }
-    let work = vec![in rt.alloc(); 7u16; room]?;
+    lines: &mut Input,
+) -> anyhow::Result<Option<String>> {
     match foot {
+        "table" => {
+            tell_refusal(rt, Backtracker::check_kind(kind))?;
+            let cells = vec![in rt.alloc(); true; room]?;
+            play_stack(rt, stack, TruthTable::new(kind, cells), lines)
+        }
         "dpll" => {
             tell_refusal(rt, Dpll::check_kind(kind))?;
-            play_stack(rt, stack, Dpll::new(kind, work), calls)
+            play_stack(rt, stack, Dpll::new(kind, workspace(rt, room)?), lines)
         }
         "sweep" => {
             tell_refusal(rt, Sweep::check_kind(kind))?;
-            play_stack(rt, stack, Sweep::new(kind, work), calls)
+            play_stack(rt, stack, Sweep::new(kind, workspace(rt, room)?), lines)
         }
         "backtracker" => {
             tell_refusal(rt, Backtracker::check_kind(kind))?;
-            play_more(rt, stack, Backtracker::new(kind, work), calls)
+            play_more(
+                rt,
+                stack,
+                Backtracker::new(kind, workspace(rt, room)?),
+                lines,
+            )
         }
         _ => Err(anyhow!("no such solver")),
     }
+}
+
+fn workspace(rt: &HostRuntime, room: usize) -> anyhow::Result<Vec<u16>> {
+    Ok(vec![in rt.alloc(); 7u16; room]?)
 }
 
 fn tell_refusal(rt: &HostRuntime, checked: Result<(), Fault>) -> anyhow::Result<()> {
@@ -76,20 +83,20 @@ fn play_stack<S: Solver + Drop>(
     rt: &HostRuntime,
     stack: &str,
     foot: S,
-    calls: &[String],
-) -> anyhow::Result<()> {
+    lines: &mut Input,
+) -> anyhow::Result<Option<String>> {
     match stack {
-        "straight" => Player::new(foot).begin(rt, calls),
-        "pairs" => Player::new(Reduced::new(Pairs, foot)).begin(rt, calls),
-        "chain" => Player::new(Reduced::new(Chain, foot)).begin(rt, calls),
-        "triples" => Player::new(Reduced::new(Triples, foot)).begin(rt, calls),
+        "straight" => Player::new(foot).begin(rt, lines),
+        "pairs" => Player::new(Reduced::new(Pairs, foot)).begin(rt, lines),
+        "chain" => Player::new(Reduced::new(Chain, foot)).begin(rt, lines),
+        "triples" => Player::new(Reduced::new(Triples, foot)).begin(rt, lines),
         "pairs/chain" => {
             let lower = Reduced::new(Chain, foot);
-            Player::new(Reduced::new(Pairs, lower)).begin(rt, calls)
+            Player::new(Reduced::new(Pairs, lower)).begin(rt, lines)
         }
         "pairs/chain/narrow3" => {
             let lower = Reduced::new(Chain, Reduced::new(Narrow::new(3), foot));
-            Player::new(Reduced::new(Pairs, lower)).begin(rt, calls)
+            Player::new(Reduced::new(Pairs, lower)).begin(rt, lines)
         }
         _ => Err(anyhow!("no such stack")),
     }
@@ -100,28 +107,28 @@ fn play_more(
     rt: &HostRuntime,
     stack: &str,
     foot: Backtracker,
-    calls: &[String],
-) -> anyhow::Result<()> {
+    lines: &mut Input,
+) -> anyhow::Result<Option<String>> {
     let narrow = Narrow::new(4);
     match stack {
-        "narrow3" => Player::new(Reduced::new(Narrow::new(3), foot)).begin(rt, calls),
-        "narrow4" => Player::new(Reduced::new(narrow, foot)).begin(rt, calls),
+        "narrow3" => Player::new(Reduced::new(Narrow::new(3), foot)).begin(rt, lines),
+        "narrow4" => Player::new(Reduced::new(narrow, foot)).begin(rt, lines),
         "chain/triples" => {
             let lower = Reduced::new(Triples, foot);
-            Player::new(Reduced::new(Chain, lower)).begin(rt, calls)
+            Player::new(Reduced::new(Chain, lower)).begin(rt, lines)
         }
         "pairs/chain/triples" => {
             let lower = Reduced::new(Chain, Reduced::new(Triples, foot));
-            Player::new(Reduced::new(Pairs, lower)).begin(rt, calls)
+            Player::new(Reduced::new(Pairs, lower)).begin(rt, lines)
         }
         "chain/triples/narrow4" => {
             let lower = Reduced::new(Triples, Reduced::new(narrow, foot));
-            Player::new(Reduced::new(Chain, lower)).begin(rt, calls)
+            Player::new(Reduced::new(Chain, lower)).begin(rt, lines)
         }
         "pairs/chain/triples/narrow4" => {
             let lower = Reduced::new(Triples, Reduced::new(narrow, foot));
-            Player::new(Reduced::new(Pairs, Reduced::new(Chain, lower))).begin(rt, calls)
+            Player::new(Reduced::new(Pairs, Reduced::new(Chain, lower))).begin(rt, lines)
         }
-        _ => play_stack(rt, stack, foot, calls),
+        _ => play_stack(rt, stack, foot, lines),
     }
 }

@@ -1,7 +1,6 @@
 // One line after another on a solver.
 use crate::asking::{count_posed, decide_posed};
-use crate::reading::{Question, is_call, read_call, read_question};
-use anyhow::anyhow;
+use crate::reading::{Input, read_call, read_numbers, read_question};
 use history::{Answer, replay};
 use solver::Solver;
 use verdict::Verdict;
@@ -17,50 +16,37 @@ impl<S: Solver + Drop> Player<S> {
     }
 
     // The kind of the solver, and then its lines.
-    pub(crate) fn begin(self, rt: &HostRuntime, lines: &[String]) -> anyhow::Result<()> {
+    pub(crate) fn begin(
+        self,
+        rt: &HostRuntime,
+        lines: &mut Input,
+    ) -> anyhow::Result<Option<String>> {
         let kind = u8::from(self.solver.kind());
         println!(rt; "kind {kind}")?;
         self.play(rt, lines)
     }
 
-    // Calls that follow one another are performed as one list.
-    pub(crate) fn play(self, rt: &HostRuntime, lines: &[String]) -> anyhow::Result<()> {
+    // Plays one line after another up to one that makes another solver, which it gives back.
+    pub(crate) fn play(
+        self,
+        rt: &HostRuntime,
+        lines: &mut Input,
+    ) -> anyhow::Result<Option<String>> {
         let mut player = self;
-        for stretch in lines.chunk_by(|a, b| is_call(a.as_str()) == is_call(b.as_str())) {
-            if stretch.first().is_some_and(|line| is_call(line.as_str())) {
-                player.perform(rt, stretch)?;
-            } else {
-                player.step_all(rt, stretch)?;
+        for _ in 0..u64::MAX {
+            let Some(line) = lines.next() else {
+                return Ok(None);
+            };
+            let line = line?;
+            if line.as_str().split_whitespace().next() == Some("make") {
+                return Ok(Some(line));
             }
+            player.step(rt, line.as_str())?;
         }
-        Ok(())
+        Ok(None)
     }
 
-    fn perform(&mut self, rt: &HostRuntime, lines: &[String]) -> anyhow::Result<()> {
-        let mut read = Vec::new(rt.alloc());
-        for line in lines {
-            read.push(read_call(rt, line.as_str())?)?;
-        }
-        let mut calls = Vec::new(rt.alloc());
-        for call in &read {
-            calls.push(call.call())?;
-        }
-        let answers = replay(rt.alloc(), &mut self.solver, calls.as_slice())?;
-        for (line, answer) in lines.iter().zip(answers.iter()) {
-            print!(rt; "{}: ", line.as_str())?;
-            show(rt, answer)?;
-        }
-        Ok(())
-    }
-
-    fn step_all(&mut self, rt: &HostRuntime, lines: &[String]) -> anyhow::Result<()> {
-        for line in lines {
-            self.step(rt, line.as_str())?;
-        }
-        Ok(())
-    }
-
-    // A question about a puzzle; a line that begins with a sharp is a remark, and is printed as it is.
+    // A call, or a question about a puzzle; a line that begins with a sharp is a remark, and is printed as it is.
     fn step(&mut self, rt: &HostRuntime, line: &str) -> anyhow::Result<()> {
         let Some(word) = line.split_whitespace().next() else {
             return Ok(());
@@ -69,18 +55,30 @@ impl<S: Solver + Drop> Player<S> {
             println!(rt; "{line}")?;
             return Ok(());
         }
-        print!(rt; "{line}: ")?;
-        let question = read_question(rt, line)?;
         match word {
-            "count" => self.count(rt, &question),
-            "verdict" => self.verdict(rt, &question),
-            _ => Err(anyhow!("no such call")),
+            "count" => self.count(rt, line),
+            "verdict" => self.verdict(rt, line),
+            _ => self.perform(rt, word, line),
         }
     }
 
+    // A call, performed as a list of one.
+    fn perform(&mut self, rt: &HostRuntime, word: &str, line: &str) -> anyhow::Result<()> {
+        let numbers = read_numbers(rt, line, 1)?;
+        print!(rt; "{line}: ")?;
+        let read = read_call(rt, word, numbers.as_slice())?;
+        let calls = [read.call()];
+        for answer in &replay(rt.alloc(), &mut self.solver, &calls)? {
+            show(rt, answer)?;
+        }
+        Ok(())
+    }
+
     // count LIMIT and a puzzle: how many answers it has.
-    fn count(&mut self, rt: &HostRuntime, question: &Question) -> anyhow::Result<()> {
-        match count_posed(question, &mut self.solver) {
+    fn count(&mut self, rt: &HostRuntime, line: &str) -> anyhow::Result<()> {
+        print!(rt; "{line}: ")?;
+        let question = read_question(rt, line)?;
+        match count_posed(&question, &mut self.solver) {
             Ok((found, true)) => println!(rt; "{found}, and none is left")?,
             Ok((found, false)) => println!(rt; "{found}")?,
             Err(fault) => println!(rt; "{fault}")?,
@@ -90,9 +88,11 @@ impl<S: Solver + Drop> Player<S> {
 
     // verdict ROOM and a puzzle with what is known of it: whether it has another answer, and what then stands in a buffer of so
     // many nines.
-    fn verdict(&mut self, rt: &HostRuntime, question: &Question) -> anyhow::Result<()> {
+    fn verdict(&mut self, rt: &HostRuntime, line: &str) -> anyhow::Result<()> {
+        print!(rt; "{line}: ")?;
+        let question = read_question(rt, line)?;
         let mut buffer = vec![in rt.alloc(); 9u8; usize::try_from(question.number)?]?;
-        match decide_posed(question, &mut self.solver, buffer.as_mut_slice()) {
+        match decide_posed(&question, &mut self.solver, buffer.as_mut_slice()) {
             Ok(Verdict::Another { draws }) => print!(rt; "another after {draws} draws")?,
             Ok(Verdict::None { draws }) => print!(rt; "none after {draws} draws")?,
             Err(fault) => print!(rt; "{fault}")?,

@@ -4,6 +4,10 @@ use cycles::Arc;
 use history::Call;
 use puzzles::Given;
 use rows::{Bill, Literal};
+use std::io::{Lines, StdinLock};
+
+// The lines that are still to be read.
+pub(crate) type Input = Lines<StdinLock<'static>>;
 
 // A call that owns its row.
 #[derive(Drop)]
@@ -47,16 +51,8 @@ pub(crate) struct Question {
     pub(crate) known: Vec<u8>,
 }
 
-// Whether a line is a call upon the solver alone.
-pub(crate) fn is_call(line: &str) -> bool {
-    matches!(
-        line.split_whitespace().next(),
-        Some("open" | "post" | "next" | "value" | "rewind")
-    )
-}
-
 // The numbers of a line that follow so many words.
-fn read_numbers(rt: &HostRuntime, line: &str, words: usize) -> anyhow::Result<Vec<u64>> {
+pub(crate) fn read_numbers(rt: &HostRuntime, line: &str, words: usize) -> anyhow::Result<Vec<u64>> {
     let mut numbers = Vec::new(rt.alloc());
     for word in line.split_whitespace().skip(words) {
         numbers.push(word.parse::<u64>()?)?;
@@ -64,18 +60,20 @@ fn read_numbers(rt: &HostRuntime, line: &str, words: usize) -> anyhow::Result<Ve
     Ok(numbers)
 }
 
-pub(crate) fn read_call(rt: &HostRuntime, line: &str) -> anyhow::Result<Read> {
-    let numbers = read_numbers(rt, line, 1)?;
+// A call by its word and numbers; next and rewind pass over any.
+pub(crate) fn read_call(rt: &HostRuntime, word: &str, numbers: &[u64]) -> anyhow::Result<Read> {
     // one arm for each word: each call has its own numbers to read
-    match (line.split_whitespace().next(), numbers.as_slice()) {
-        (Some("open"), [vars, pairs @ ..]) => Ok(Read::Open {
+    match (word, numbers) {
+        ("open", [vars, pairs @ ..]) => Ok(Read::Open {
             vars: u32::try_from(*vars)?,
             bill: read_bill(pairs)?,
         }),
-        (Some("post"), numbers) => Ok(Read::Post(read_row(rt, numbers)?)),
-        (Some("next"), []) => Ok(Read::Next),
-        (Some("value"), [variable]) => Ok(Read::Value(u32::try_from(*variable)?)),
-        (Some("rewind"), []) => Ok(Read::Rewind),
+        ("open", []) => Err(anyhow!("open wants a number of variables")),
+        ("post", _) => Ok(Read::Post(read_row(rt, numbers)?)),
+        ("next", _) => Ok(Read::Next),
+        ("value", [variable]) => Ok(Read::Value(u32::try_from(*variable)?)),
+        ("value", _) => Err(anyhow!("value wants a variable")),
+        ("rewind", _) => Ok(Read::Rewind),
         _ => Err(anyhow!("no such call")),
     }
 }

@@ -13,7 +13,7 @@ pub fn all_below(size: usize, answer: &[u8]) -> bool
 fn count_value(value: usize, answer: &[u8]) -> usize
     ensures { result ≡ count_by (λ x. x == value) answer.now }
 {
-    // a sum and no filter, whose branch makes a question about an answer take half as long again
+    // a sum and no filter, whose branch makes a question about an answer take half as long again, or more
     answer
         .iter()
         .map(|x| usize::from(*x as usize == value))

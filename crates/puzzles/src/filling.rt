@@ -64,7 +64,8 @@ pub fn run(start: u32, step: u32, count: u32) -> Option<Row>
     Some(row)
 }
 
-/// Such a row with one variable more, as the slack of a line. None where it has no place there either.
+/// Such a row with one variable more at its end, as the slack of a line. None where there is no such row, or where it has no room for
+/// that variable, or the variable's number is too large for a literal.
 // not inlined either
 #[inline(never)]
 pub fn run_and(start: u32, step: u32, count: u32, last: u32) -> Option<Row>

@@ -30,7 +30,7 @@ gives v h (x ∷ xs) = beq (v h) x && gives v (h + 1) xs
 abbrev pub Among : List ℕ → ℕ → ℕ → ℕ → Type 0
 Among row h m i = Contains (map (λ l. l / 2) row) i ⊎ ((h ≤ i) × (i < h + m))
 
--- no row becomes more rows or gets more helpers: fewer than the square of the most literals that one has
+-- the most rows that a row becomes, and the most helpers that it gets: one fewer than the square of the most literals that a row has
 abbrev pub most_made : ℕ
 most_made = longest * longest - 1
 

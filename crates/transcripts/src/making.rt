@@ -15,19 +15,25 @@ pub(crate) fn play_on(
     line: &str,
     lines: &mut Input,
 ) -> anyhow::Result<Option<String>> {
-    let mut numbers = Vec::new(rt.alloc());
-    for word in line.split_whitespace().skip(1).take(2) {
-        numbers.push(word.parse::<u64>()?)?;
-    }
+    let mut words = line.split_whitespace();
+    let _ = words.next();
+    let kind = read_number(words.next())?;
+    let room = read_number(words.next())?;
     print!(rt; "{line}: ")?;
-    let [kind, room] = numbers.as_slice() else {
+    let (Some(kind), Some(room)) = (kind, room) else {
         return Err(anyhow!("make wants a kind and a size of the workspace"));
     };
-    let room = usize::try_from(*room)?;
-    let mut words = line.split_whitespace().skip(3);
+    let room = usize::try_from(room)?;
     let stack = words.next().unwrap_or("straight");
     let foot = words.next().unwrap_or("backtracker");
-    play_upon(rt, foot, *kind, room, stack, lines)
+    play_upon(rt, foot, kind, room, stack, lines)
+}
+
+fn read_number(word: Option<&str>) -> anyhow::Result<Option<u64>> {
+    match word {
+        Some(word) => Ok(Some(word.parse::<u64>()?)),
+        None => Ok(None),
+    }
 }
 
 // Makes the solver that a stack stands upon, after the check of its kind.

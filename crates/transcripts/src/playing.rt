@@ -3,6 +3,7 @@ use crate::asking::{count_posed, decide_posed};
 use crate::reading::{Input, read_call, read_numbers, read_question};
 use history::{Answer, replay};
 use solver::Solver;
+use std::str::SplitWhitespace;
 use verdict::Verdict;
 
 #[derive(Drop)]
@@ -38,19 +39,24 @@ impl<S: Solver + Drop> Player<S> {
                 return Ok(None);
             };
             let line = line?;
-            if line.as_str().split_whitespace().next() == Some("make") {
-                return Ok(Some(line));
+            let mut words = line.as_str().split_whitespace();
+            match words.next() {
+                None => {}
+                Some("make") => return Ok(Some(line)),
+                Some(word) => player.step(rt, line.as_str(), word, words)?,
             }
-            player.step(rt, line.as_str())?;
         }
         Ok(None)
     }
 
     // A call, or a question about a puzzle; a line that begins with a sharp is a remark, and is printed as it is.
-    fn step(&mut self, rt: &HostRuntime, line: &str) -> anyhow::Result<()> {
-        let Some(word) = line.split_whitespace().next() else {
-            return Ok(());
-        };
+    fn step(
+        &mut self,
+        rt: &HostRuntime,
+        line: &str,
+        word: &str,
+        others: SplitWhitespace<'_>,
+    ) -> anyhow::Result<()> {
         if word.starts_with("#") {
             println!(rt; "{line}")?;
             return Ok(());
@@ -58,13 +64,19 @@ impl<S: Solver + Drop> Player<S> {
         match word {
             "count" => self.count(rt, line),
             "verdict" => self.verdict(rt, line),
-            _ => self.perform(rt, word, line),
+            _ => self.perform(rt, line, word, others),
         }
     }
 
     // A call, performed as a list of one.
-    fn perform(&mut self, rt: &HostRuntime, word: &str, line: &str) -> anyhow::Result<()> {
-        let numbers = read_numbers(rt, line, 1)?;
+    fn perform(
+        &mut self,
+        rt: &HostRuntime,
+        line: &str,
+        word: &str,
+        others: SplitWhitespace<'_>,
+    ) -> anyhow::Result<()> {
+        let numbers = read_numbers(rt, others)?;
         print!(rt; "{line}: ")?;
         let read = read_call(rt, word, numbers.as_slice())?;
         let calls = [read.call()];

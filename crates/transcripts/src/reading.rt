@@ -5,6 +5,7 @@ use history::Call;
 use puzzles::Given;
 use rows::{Bill, Literal};
 use std::io::{Lines, StdinLock};
+use std::str::SplitWhitespace;
 
 // The lines that are still to be read.
 pub(crate) type Input = Lines<StdinLock<'static>>;
@@ -51,16 +52,19 @@ pub(crate) struct Question {
     pub(crate) known: Vec<u8>,
 }
 
-// The numbers of a line that follow so many words.
-pub(crate) fn read_numbers(rt: &HostRuntime, line: &str, words: usize) -> anyhow::Result<Vec<u64>> {
+// The words that are left of a line, as numbers.
+pub(crate) fn read_numbers(
+    rt: &HostRuntime,
+    words: SplitWhitespace<'_>,
+) -> anyhow::Result<Vec<u64>> {
     let mut numbers = Vec::new(rt.alloc());
-    for word in line.split_whitespace().skip(words) {
+    for word in words {
         numbers.push(word.parse::<u64>()?)?;
     }
     Ok(numbers)
 }
 
-// A call by its word and numbers; next and rewind pass over any.
+// A call by its word and numbers. Numbers behind next and rewind are passed over.
 pub(crate) fn read_call(rt: &HostRuntime, word: &str, numbers: &[u64]) -> anyhow::Result<Read> {
     // one arm for each word: each call has its own numbers to read
     match (word, numbers) {
@@ -104,12 +108,13 @@ fn read_row(rt: &HostRuntime, numbers: &[u64]) -> anyhow::Result<Vec<Literal>> {
 // after the word `known`.
 pub(crate) fn read_question(rt: &HostRuntime, line: &str) -> anyhow::Result<Question> {
     let (posed, known) = line.split_once(" known").unwrap_or((line, ""));
-    let mut words = posed.split_whitespace().skip(1);
+    let mut words = posed.split_whitespace();
+    let _ = words.next();
     let (Some(number), Some(name), Some(size)) = (words.next(), words.next(), words.next()) else {
         return Err(anyhow!("a question wants a number, a puzzle and its size"));
     };
-    let entries = read_numbers(rt, posed, 4)?;
-    let known = read_numbers(rt, known, 0)?;
+    let entries = read_numbers(rt, words)?;
+    let known = read_numbers(rt, known.split_whitespace())?;
     Ok(Question {
         number: number.parse::<u64>()?,
         size: size.parse::<usize>()?,

@@ -1,9 +1,14 @@
 // Latin squares: the small ones whole, larger ones counted, with givens that agree and givens that clash.
-use crate::showing::{MANY, Title, show_another, show_counted, show_whole};
+use crate::showing::{MANY, Names, show_another, show_counted, show_whole};
 use latin::Latin;
 use puzzles::Given;
 use reductions::{Pairs, Reduced};
 use search::Dpll;
+
+const NAMES: Names = Names {
+    puzzle: "latin",
+    entries: "entries",
+};
 
 const TWICE_AND_AGAIN: [Given; 3] = [
     Given { place: 0, value: 1 },
@@ -72,13 +77,13 @@ pub(crate) fn try_squares(rt: &HostRuntime) -> anyhow::Result<()> {
 fn try_square(rt: &HostRuntime, size: usize, givens: &[Given]) -> anyhow::Result<()> {
     let mut latin = Latin::new();
     latin.make(size, givens)?;
-    show_whole(rt, titled(givens.len()), &latin)
+    show_whole(rt, NAMES, givens.len(), &latin)
 }
 
 fn count_square(rt: &HostRuntime, size: usize, givens: &[Given], limit: u64) -> anyhow::Result<()> {
     let mut latin = Latin::new();
     latin.make(size, givens)?;
-    show_counted(rt, titled(givens.len()), &latin, limit)
+    show_counted(rt, NAMES, givens.len(), &latin, limit)
 }
 
 // One of the two squares of size 2 is known, and the other is found through pairs over dpll.
@@ -90,12 +95,4 @@ fn ask_for_another(rt: &HostRuntime) -> anyhow::Result<()> {
     let mut solver = Reduced::new(Pairs, foot);
     println!(rt; "latin 2 through pairs over dpll, with 0 1 1 0 known:")?;
     show_another(rt, &latin, &[0, 1, 1, 0], &mut solver)
-}
-
-fn titled(entries: usize) -> Title {
-    Title {
-        name: "latin",
-        entries,
-        called: "entries",
-    }
 }

@@ -1,7 +1,12 @@
 // Queens: the small boards whole, the larger ones counted, and boards with givens.
-use crate::showing::{MANY, Title, show_counted, show_whole};
+use crate::showing::{MANY, Names, show_counted, show_whole};
 use puzzles::Given;
 use queens::Queens;
+
+const NAMES: Names = Names {
+    puzzle: "queens",
+    entries: "givens",
+};
 
 const TWICE_AND_AGAIN: [Given; 3] = [
     Given { place: 0, value: 1 },
@@ -29,19 +34,11 @@ pub(crate) fn try_boards(rt: &HostRuntime) -> anyhow::Result<()> {
 fn try_board(rt: &HostRuntime, size: usize, givens: &[Given]) -> anyhow::Result<()> {
     let mut queens = Queens::new();
     queens.make(size, givens)?;
-    show_whole(rt, titled(givens.len()), &queens)
+    show_whole(rt, NAMES, givens.len(), &queens)
 }
 
 fn count_board(rt: &HostRuntime, size: usize, limit: u64) -> anyhow::Result<()> {
     let mut queens = Queens::new();
     queens.make(size, &[])?;
-    show_counted(rt, titled(0), &queens, limit)
-}
-
-fn titled(entries: usize) -> Title {
-    Title {
-        name: "queens",
-        entries,
-        called: "givens",
-    }
+    show_counted(rt, NAMES, 0, &queens, limit)
 }

@@ -1,7 +1,12 @@
 // Rings through all vertices, which are Hamiltonian cycles: in the small graphs whole, in larger ones counted.
 use crate::graphs::{CUBE, PETERSEN, RING, RING_AND_MORE, TRIANGLES, both_ways, complete, within};
-use crate::showing::{MANY, Title, show_counted, show_whole};
+use crate::showing::{MANY, Names, show_counted, show_whole};
 use cycles::{Arc, Cycles};
+
+const NAMES: Names = Names {
+    puzzle: "cycles",
+    entries: "entries",
+};
 
 pub(crate) fn try_graphs(rt: &HostRuntime) -> anyhow::Result<()> {
     let on_three = complete(rt.alloc(), 3)?;
@@ -30,19 +35,11 @@ pub(crate) fn try_graphs(rt: &HostRuntime) -> anyhow::Result<()> {
 fn try_graph(rt: &HostRuntime, vertices: usize, arcs: &[Arc]) -> anyhow::Result<()> {
     let mut cycles = Cycles::new();
     cycles.make(vertices, arcs)?;
-    show_whole(rt, titled(arcs.len()), &cycles)
+    show_whole(rt, NAMES, arcs.len(), &cycles)
 }
 
 fn count_graph(rt: &HostRuntime, vertices: usize, arcs: &[Arc]) -> anyhow::Result<()> {
     let mut cycles = Cycles::new();
     cycles.make(vertices, arcs)?;
-    show_counted(rt, titled(arcs.len()), &cycles, MANY)
-}
-
-fn titled(entries: usize) -> Title {
-    Title {
-        name: "cycles",
-        entries,
-        called: "entries",
-    }
+    show_counted(rt, NAMES, arcs.len(), &cycles, MANY)
 }

@@ -14,21 +14,21 @@ const TRIES: u32 = 100_000;
 // More than the answers of any puzzle that is counted to the last.
 pub(crate) const MANY: u64 = 100_000;
 
-// A puzzle's name, and how many entries it was made of, by what they are called.
+// What a puzzle and its entries are called.
 #[derive(Clone, Copy)]
-pub(crate) struct Title {
-    pub(crate) name: &'static str,
-    pub(crate) entries: usize,
-    pub(crate) called: &'static str,
+pub(crate) struct Names {
+    pub(crate) puzzle: &'static str,
+    pub(crate) entries: &'static str,
 }
 
 // A puzzle's rows and answers, and that each stack which takes it counts as many.
 pub(crate) fn show_whole<P: Puzzle>(
     rt: &HostRuntime,
-    title: Title,
+    names: Names,
+    entries: usize,
     puzzle: &P,
 ) -> anyhow::Result<()> {
-    show_size(rt, title, puzzle)?;
+    show_size(rt, names, entries, puzzle)?;
     show_rows(rt, puzzle)?;
     let answers = show_answers(rt, puzzle)?;
     show_stacks(rt, puzzle, answers)
@@ -37,11 +37,12 @@ pub(crate) fn show_whole<P: Puzzle>(
 // How many answers a puzzle has, up to a limit.
 pub(crate) fn show_counted<P: Puzzle>(
     rt: &HostRuntime,
-    title: Title,
+    names: Names,
+    entries: usize,
     puzzle: &P,
     limit: u64,
 ) -> anyhow::Result<()> {
-    show_size(rt, title, puzzle)?;
+    show_size(rt, names, entries, puzzle)?;
     let (answers, none_left) = count_straight(rt.alloc(), puzzle, limit)?;
     let left = if none_left {
         "none left"
@@ -53,12 +54,14 @@ pub(crate) fn show_counted<P: Puzzle>(
 }
 
 // The name of a puzzle, what it was made of, and what it comes to as rows.
-fn show_size<P: Puzzle>(rt: &HostRuntime, title: Title, puzzle: &P) -> anyhow::Result<()> {
-    let Title {
-        name,
-        entries,
-        called,
-    } = title;
+fn show_size<P: Puzzle>(
+    rt: &HostRuntime,
+    names: Names,
+    entries: usize,
+    puzzle: &P,
+) -> anyhow::Result<()> {
+    let name = names.puzzle;
+    let called = names.entries;
     let vars = puzzle.vars();
     let rows = puzzle.rows();
     let bill = bill(puzzle);

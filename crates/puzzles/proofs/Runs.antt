@@ -21,11 +21,11 @@ abbrev pub many : ℕ
 many = 1024
 
 -- among so few variables a run makes a row
+few-fits : (start step count : ℕ) → count ≤ longest → start < many → step < many → run_fits start step count ≡ true
+few-fits start step count h l k = let m = mul-le (count - 1) step longest many (omega arith) (omega arith) in grind (arith, nat_tests)
+
 pub run-made : (start step count : ℕ) (o : Option (List ℕ)) → o ≡ run_row start step count → count ≤ longest → start < many → step < many → o ≡ Some (run_of start step count)
-run-made start step count o e h l k =
-    let m = mul-le (count - 1) step longest many (omega arith) (omega arith) in
-    let f : run_fits start step count ≡ true = grind (arith, nat_tests) in
-    e ∙ rw f refl
+run-made start step count o e h l k = e ∙ rw (few-fits start step count h l k) refl
 
 -- what is there only where a test passes
 only-where : {A : Type 0} (b : Bool) (x y : A) → cond b (Some x) None ≡ Some y → (b ≡ true) × (y ≡ x)
@@ -60,15 +60,17 @@ run-and-made start step count v f c h =
     let made : o ≡ Some (run_of start step count) = rw f refl in
     run-extended start step count v o (option_and_then (λ row. extended row v) o) (run_of start step count) refl made (rw made refl) c h
 
--- so can a run among so few variables, by its slack
+-- so a run among so few variables, by its slack
 pub run-and : (start step count v : ℕ) (r : Option (List ℕ)) → r ≡ option_and_then (λ row. extended row v) (run_row start step count) → count < longest → start < many → step < many → v < within → r ≡ Some (run_of start step count ++ (2 * v) ∷ [])
-run-and start step count v r e c h k l =
-    let made = run-made start step count (run_row start step count) refl (omega arith) h k in
-    run-extended start step count v (run_row start step count) r (run_of start step count) refl made (e ∙ rw made refl) c l
+run-and start step count v r e c h k l = e ∙ run-and-made start step count v (few-fits start step count (omega arith) h k) c l
 
 -- a longer run does not fit either
 longer-unfit : (start step k count : ℕ) → k < count → run_fits start step (k + 1) ≡ false → run_fits start step count ≡ false
 longer-unfit start step k count h e = let m = mul-le k step (count - 1) step (omega arith) (omega arith) in grind (arith, nat_tests)
+
+-- a run and its next variable are the next run
+pub run-longer : (start step k : ℕ) → run_of start step k ++ (2 * (start + k * step)) ∷ [] ≡ run_of start step (k + 1)
+run-longer start step k = sym (map-range_with_len_more (λ k. 2 * (start + k * step)) 0 k k (omega arith))
 
 -- one variable more in a row that is a run
 module _ (start step k : ℕ) (row : List ℕ) (made : run_row start step k ≡ Some row) where
@@ -79,7 +81,7 @@ module _ (start step k : ℕ) (row : List ℕ) (made : run_row start step k ≡ 
       let p = b.0 in
       let l : length row ≡ k = ap length b.1 ∙ length_run start step k in
       let f : (ltb v within && ltb (length row) longest) ≡ run_fits start step (k + 1) = (let n : k + 1 - 1 ≡ k = omega arith in rw n (grind (arith, nat_tests))) in
-      let m : run_of start step (k + 1) ≡ row ++ (2 * v) ∷ [] = rw (e, b.1) (map-range_with_len_more (λ k. 2 * (start + k * step)) 0 k k (omega arith)) in
+      let m : run_of start step (k + 1) ≡ row ++ (2 * v) ∷ [] = rw (e, b.1) (sym (run-longer start step k)) in
       rw (f, m) refl
 
   -- where the next variable does not fit, no longer run does
@@ -93,10 +95,6 @@ module _ (start step k : ℕ) (row : List ℕ) (made : run_row start step k ≡ 
 -- a run that makes a row has room for each of its variables, which are within the limit
 pub run-room : (start step count k : ℕ) → run_fits start step count ≡ true → k < count → (k < longest) × (start + k * step < within)
 run-room start step count k f h = let m = mul-le k step (count - 1) step (omega arith) (omega arith) in (grind (arith, nat_tests), grind (arith, nat_tests))
-
--- a run and its next variable are the next run
-pub run-longer : (start step k : ℕ) → run_of start step k ++ (2 * (start + k * step)) ∷ [] ≡ run_of start step (k + 1)
-run-longer start step k = sym (map-range_with_len_more (λ k. 2 * (start + k * step)) 0 k k (omega arith))
 
 -- literals made from numbers that go up by one
 run-from : (f : ℕ → ℕ) (start step i m : ℕ) → ((k : ℕ) → k < m → f (i + k) ≡ 2 * (start + k * step)) → map f (range_with_len i m) ≡ run_of start step m

@@ -47,7 +47,7 @@ impl Row {
         ensures after { self.new ≡ (if result then self.old ++ literal ∷ [] else self.old) }
         ensures short { length self.new ≤ longest }
     {
-        // by a copy of the length: read again behind the write, it makes filling a row take half as long again
+        // in a local, so that the length is not read again behind the write
         let at = self.len;
         if at >= LONGEST {
             return false;
